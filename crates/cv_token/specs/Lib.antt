@@ -1,1 +1,2 @@
-pub mod Spelling
+pub mod Rising
+pub mod formers

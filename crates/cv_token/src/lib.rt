@@ -1,10 +1,14 @@
 //! Tokens: the values that travel between actors, and the one text of each.
 #![tactic(auto)]
 
+pub mod equality;
+pub mod identifiers;
+pub mod pairs;
 pub mod token;
 pub mod utf8;
-pub mod writing;
 
-pub use token::{OutOfMemory, Token};
+pub use equality::{are_equal, are_equal_items, are_equal_pairs};
+pub use identifiers::{ActorId, AppId, ConnId};
+pub use pairs::{Pair, PairsOf};
+pub use token::{Items, OutOfMemory, Pairs, Token, copy_items, copy_pairs};
 pub use utf8::Text;
-pub use writing::text;

@@ -1,6 +1,6 @@
 //! `Text`: a piece of UTF-8, seen by contracts as the list of its bytes.
 
-ghost use Rattle.std.specs.Prelude.{◌≡◌, IfOk, string_bytes};
+ghost use Rattle.std.specs.Prelude.{◌≡◌, ◌↔◌, IfOk, IsTrue, string_bytes};
 
 use std::alloc::{AllocError, Global};
 use std::marker::Model;
@@ -43,5 +43,12 @@ impl Text {
     {
         let text = String::from_str(alloc, self.text.as_str())?;
         Ok(Text { text })
+    }
+
+    /// Whether both have the same bytes.
+    pub fn equals(&self, other: &Text) -> bool
+        ensures { IsTrue result ↔ (self.now ≡ other.now) }
+    {
+        self.text.as_str() == other.text.as_str()
     }
 }
