@@ -1,0 +1,3 @@
+pub mod KindRow
+pub mod Names
+pub mod Net

@@ -1,0 +1,9 @@
+-- What a network is: actors, and the connections between their ports.
+use Rattle.std.specs.Prelude.{ℕ, List}
+use Rattle.cv_kinds.specs.declared.network.ActorSpec.{ActorSpec}
+use Rattle.cv_kinds.specs.declared.network.Join.{Join}
+
+-- the actors in the order of their declarations, and the connections by consumer, then inport
+pub record Net : Type 0 where
+  pub actors : List ActorSpec
+  pub connections : List Join

@@ -1,0 +1,99 @@
+//! Networks: the actors that a script declares, and the connections between their ports.
+
+ghost use Rattle.std.specs.Prelude.{◌≡◌, IfOk};
+
+use crate::kind::Kind;
+use cv_token::{Items, OutOfMemory, Text, copy_items};
+use std::alloc::Global;
+use std::marker::Model;
+
+/// An actor of a network: its path from the root, its kind, and its arguments in the order of the kind's row.
+#[derive(Drop)]
+pub struct ActorSpec {
+    pub path: Text,
+    pub kind: Kind,
+    pub args: Items,
+}
+
+/// A connection from outport `out` of actor `from` to inport `inp` of actor `to`; actors by their places.
+#[derive(Debug, Clone, Copy, PartialEq, Eq)]
+pub struct Join {
+    pub from: u16,
+    pub out: u8,
+    pub to: u16,
+    pub inp: u8,
+}
+
+/// A network. Contracts see it as the lists of its actors and its connections.
+#[derive(Drop)]
+pub struct Network {
+    actors: Vec<ActorSpec>,
+    connections: Vec<Join>,
+}
+
+impl Model for Network {
+    ghost use Rattle.std.specs.Coded.{codes};
+    ghost use Rattle.cv_token.specs.contracts.token.Token as token;
+    ghost use Rattle.cv_kinds.specs.Net.{Net};
+
+    ghost Value = { Net };
+
+    ghost coded = { Prim.hlevel (codes, token.the_row.coded) };
+
+    ghost view = { λ n. record { actors = n.actors.items; connections = n.connections.items } };
+}
+
+impl ActorSpec {
+    /// An equal specification.
+    pub fn copy(&self, alloc: Global) -> Result<ActorSpec, OutOfMemory>
+        ensures { IfOk result (λ spec. spec ≡ self.now) }
+    {
+        let path = self.path.copy(alloc)?;
+        let args = copy_items(alloc, &self.args)?;
+        Ok(ActorSpec { path, kind: self.kind, args })
+    }
+}
+
+impl Network {
+    /// The network of these actors, in the order of their declarations, and of these connections, by consumer and
+    /// then inport; it takes no memory.
+    pub fn new(actors: Vec<ActorSpec>, connections: Vec<Join>) -> Network
+        ensures actors { result.actors ≡ actors.items }
+        ensures connections { result.connections ≡ connections.items }
+    {
+        Network { actors, connections }
+    }
+
+    /// The actors, in the order of their declarations.
+    pub fn actors(&self) -> &[ActorSpec]
+        ensures { result.now ≡ self.now.actors }
+    {
+        self.actors.as_slice()
+    }
+
+    /// The connections, by consumer and then inport. A connection's place is its position here.
+    pub fn connections(&self) -> &[Join]
+        ensures { result.now ≡ self.now.connections }
+    {
+        self.connections.as_slice()
+    }
+
+    /// An equal network.
+    pub fn copy(&self, alloc: Global) -> Result<Network, OutOfMemory>
+        ensures { IfOk result (λ net. net ≡ self.now) }
+    {
+        let actors = copy_actors(alloc, self.actors.as_slice())?;
+        let connections = Vec::from_slice(alloc, self.connections.as_slice())?;
+        Ok(Network { actors, connections })
+    }
+}
+
+fn copy_actors(alloc: Global, actors: &[ActorSpec]) -> Result<Vec<ActorSpec>, OutOfMemory>
+    ensures { IfOk result (λ copies. copies.items ≡ actors.now) }
+{
+    let mut copies = Vec::with_capacity(alloc, actors.len())?;
+    for actor in actors {
+        copies.push(actor.copy(alloc)?)?;
+    }
+    Ok(copies)
+}

@@ -1,0 +1,6 @@
+use Rattle.std.proofs.Common.{◌≡◌, drop}
+use Rattle.cv_kinds.specs.KindRow.{has_counts}
+use Rattle.cv_node.proofs.live.holds_counts.Given as goal
+
+abbrev pub invariant-loop-port : goal.invariant-loop-port
+invariant-loop-port l = has_counts l.kind l.args l.action l.port (drop l.port l.ins) ≡ has_counts l.kind l.args l.action 0 l.ins

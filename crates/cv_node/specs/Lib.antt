@@ -1,0 +1,4 @@
+pub mod Journal
+pub mod LiveState
+pub mod NodeRow
+pub mod Room
