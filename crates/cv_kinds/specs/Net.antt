@@ -1,5 +1,5 @@
 -- What a network is: actors, and the connections between their ports.
-use Rattle.std.specs.Prelude.{ℕ, List}
+use Rattle.std.specs.Prelude.{ℕ, ◌≤◌, List}
 use Rattle.cv_kinds.specs.declared.network.ActorSpec.{ActorSpec}
 use Rattle.cv_kinds.specs.declared.network.Join.{Join}
 
@@ -7,3 +7,8 @@ use Rattle.cv_kinds.specs.declared.network.Join.{Join}
 pub record Net : Type 0 where
   pub actors : List ActorSpec
   pub connections : List Join
+
+-- a network has at most 256 actors and 4,096 connections
+pub record IsSmall (actors connections : ℕ) : Type 0 where
+  pub few_actors : actors ≤ 256
+  pub few_connections : connections ≤ 4096

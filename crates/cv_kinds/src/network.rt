@@ -1,6 +1,6 @@
 //! Networks: the actors that a script declares, and the connections between their ports.
 
-ghost use Rattle.std.specs.Prelude.{◌≡◌, IfOk};
+ghost use Rattle.std.specs.Prelude.{◌≡◌, ◌≤◌, length, IfOk};
 
 use crate::kind::Kind;
 use cv_token::{Items, OutOfMemory, Text, copy_items};
@@ -34,13 +34,16 @@ pub struct Network {
 impl Model for Network {
     ghost use Rattle.std.specs.Coded.{codes};
     ghost use Rattle.cv_token.specs.contracts.token.Token as token;
-    ghost use Rattle.cv_kinds.specs.Net.{Net};
+    ghost use Rattle.std.specs.Prelude.{length};
+    ghost use Rattle.cv_kinds.specs.Net.{Net, IsSmall};
 
     ghost Value = { Net };
 
     ghost coded = { Prim.hlevel (codes, token.the_row.coded) };
 
     ghost view = { λ n. record { actors = n.actors.items; connections = n.connections.items } };
+
+    ghost invariant = { λ n. IsSmall (length n.actors.items) (length n.connections.items) };
 }
 
 impl ActorSpec {
@@ -58,6 +61,8 @@ impl Network {
     /// The network of these actors, in the order of their declarations, and of these connections, by consumer and
     /// then inport; it takes no memory.
     pub fn new(actors: Vec<ActorSpec>, connections: Vec<Join>) -> Network
+        requires few_actors { length actors.items ≤ 256 }
+        requires few_connections { length connections.items ≤ 4096 }
         ensures actors { result.actors ≡ actors.items }
         ensures connections { result.connections ≡ connections.items }
     {
@@ -66,14 +71,16 @@ impl Network {
 
     /// The actors, in the order of their declarations.
     pub fn actors(&self) -> &[ActorSpec]
-        ensures { result.now ≡ self.now.actors }
+        ensures value { result.now ≡ self.now.actors }
+        ensures few { length result.now ≤ 256 }
     {
         self.actors.as_slice()
     }
 
     /// The connections, by consumer and then inport. A connection's place is its position here.
     pub fn connections(&self) -> &[Join]
-        ensures { result.now ≡ self.now.connections }
+        ensures value { result.now ≡ self.now.connections }
+        ensures few { length result.now ≤ 4096 }
     {
         self.connections.as_slice()
     }

@@ -1,2 +1,3 @@
 pub mod Firing
 pub mod Replays
+pub mod RunSteps

@@ -29,8 +29,8 @@ stamp_after stamp None next h = cc
 stamp_after stamp (Some s) next h = let same : record s { stamp = stamp } ≡ next = cc in ap (λ (x : NodeState). x.stamp) (sym same)
 
 -- one step keeps that the state is the replay
-pub replay_step : (s next : NodeState) (es : List Entry) (happens : Event) → IsReplay s es → length es < 2 ^ 30 → stamped (s.stamp + 1) (row s happens) ≡ Some next → IsReplay next (es ++ record { stamp = s.stamp + 1; event = happens } ∷ [])
-replay_step s next es happens kept few does =
+pub replay_step : (s next : NodeState) (es : List Entry) (happens : Event) → IsReplay s es → length es < 2 ^ 30 → length next.actors ≤ 256 → length next.connections ≤ 4096 → stamped (s.stamp + 1) (row s happens) ≡ Some next → IsReplay next (es ++ record { stamp = s.stamp + 1; event = happens } ∷ [])
+replay_step s next es happens kept few actors connections does =
     let e : Entry = record { stamp = s.stamp + 1; event = happens } in
     let same : (s.stamp + 1 == s.stamp + 1) ≡ true = eq-eqb (s.stamp + 1) (s.stamp + 1) refl in
     let low : nat_lt (s.stamp + 1) (2 ^ 62) ≡ true = lt-ltb (s.stamp + 1) (2 ^ 62) (omega (arith, kept.stamped_last)) in
@@ -40,16 +40,20 @@ replay_step s next es happens kept few does =
       replays = replay_more opening s es e kept.replays ∙ entry;
       stamped_last = omega (arith, stamp, kept.stamped_last, length-append es (e ∷ []));
       few = omega (arith, length-append es (e ∷ []));
+      few_actors = actors;
+      few_connections = connections;
     }
 
 -- a Pass keeps it
-pub replay_pass : (s : NodeState) (es : List Entry) (place : ℕ) (actors : List LiveState) → IsReplay s es → length es < 2 ^ 30 → pass_at s.connections s.actors place ≡ Some actors → IsReplay (record s { stamp = s.stamp + 1; actors = actors }) (es ++ record { stamp = s.stamp + 1; event = event.Pass (conn_id place) } ∷ [])
-replay_pass s es place actors kept few moved = replay_step s _ es (event.Pass (conn_id place)) kept few (ap (λ o. stamped (s.stamp + 1) (with_actors s o)) moved)
+pub replay_pass : (s : NodeState) (es : List Entry) (place : ℕ) (actors : List LiveState) → IsReplay s es → length es < 2 ^ 30 → length actors ≤ 256 → pass_at s.connections s.actors place ≡ Some actors → IsReplay (record s { stamp = s.stamp + 1; actors = actors }) (es ++ record { stamp = s.stamp + 1; event = event.Pass (conn_id place) } ∷ [])
+replay_pass s es place actors kept few small moved = replay_step s _ es (event.Pass (conn_id place)) kept few small kept.few_connections (ap (λ o. stamped (s.stamp + 1) (with_actors s o)) moved)
 
 -- a Fire keeps it
-pub replay_fire : (s : NodeState) (es : List Entry) (place action : ℕ) (actors : List LiveState) → IsReplay s es → length es < 2 ^ 30 → fire_at s.actors place action ≡ Some actors → IsReplay (record s { stamp = s.stamp + 1; actors = actors }) (es ++ record { stamp = s.stamp + 1; event = event.Fire (actor_id place) action } ∷ [])
-replay_fire s es place action actors kept few fires = replay_step s _ es (event.Fire (actor_id place) action) kept few (ap (λ o. stamped (s.stamp + 1) (with_actors s o)) fires)
+pub replay_fire : (s : NodeState) (es : List Entry) (place action : ℕ) (actors : List LiveState) → IsReplay s es → length es < 2 ^ 30 → length actors ≤ 256 → fire_at s.actors place action ≡ Some actors → IsReplay (record s { stamp = s.stamp + 1; actors = actors }) (es ++ record { stamp = s.stamp + 1; event = event.Fire (actor_id place) action } ∷ [])
+replay_fire s es place action actors kept few small fires = replay_step s _ es (event.Fire (actor_id place) action) kept few small kept.few_connections (ap (λ o. stamped (s.stamp + 1) (with_actors s o)) fires)
 
 -- a Deploy keeps it
-pub replay_deploy : (s : NodeState) (es : List Entry) (name : List ℕ) (net : Net) → IsReplay s es → length es < 2 ^ 30 → s.deployed ≡ false → IsReplay (record { stamp = s.stamp + 1; deployed = true; connections = net.connections; actors = starting_from net.connections 0 net.actors }) (es ++ record { stamp = s.stamp + 1; event = event.Deploy name net } ∷ [])
-replay_deploy s es name net kept few fresh = replay_step s _ es (event.Deploy name net) kept few (ap (λ d. stamped (s.stamp + 1) (deploy_row s net d)) fresh)
+pub replay_deploy : (s : NodeState) (es : List Entry) (name : List ℕ) (net : Net) (actors : List LiveState) → IsReplay s es → length es < 2 ^ 30 → length actors ≤ 256 → length net.connections ≤ 4096 → s.deployed ≡ false → actors ≡ starting_from net.connections 0 net.actors → IsReplay (record { stamp = s.stamp + 1; deployed = true; connections = net.connections; actors = actors }) (es ++ record { stamp = s.stamp + 1; event = event.Deploy name net } ∷ [])
+replay_deploy s es name net actors kept few small connections fresh start =
+    let after = λ (started : List LiveState). Some (record { stamp = s.stamp + 1; deployed = true; connections = net.connections; actors = started }) in
+    replay_step s _ es (event.Deploy name net) kept few small connections (ap (λ d. stamped (s.stamp + 1) (deploy_row s net d)) fresh ∙ ap after (sym start))

@@ -33,6 +33,8 @@ pub record IsReplay (state : NodeState) (entries : List Entry) : Type 0 where
   pub replays : replay opening entries ≡ Some state
   pub stamped_last : state.stamp ≡ length entries
   pub few : length entries ≤ 2 ^ 30
+  pub few_actors : length state.actors ≤ 256
+  pub few_connections : length state.connections ≤ 4096
 
 -- the actors become what the row says where it was done, and stay where there is no such row
 abbrev pub Becomes : Option (List LiveState) → Bool → List LiveState → List LiveState → Type 0

@@ -72,10 +72,27 @@ impl Node {
         Ok(())
     }
 
+    /// How many connections the node's application has.
+    pub fn connections(&self) -> u16
+        ensures count { result ≡ length self.now.state.connections }
+        ensures few { length self.now.entries ≤ 2 ^ 30 }
+    {
+        self.connections.len() as u16
+    }
+
+    /// How many actors live here.
+    pub fn actors(&self) -> u16
+        ensures count { result ≡ length self.now.state.actors }
+        ensures few { length self.now.entries ≤ 2 ^ 30 }
+    {
+        self.actors.len() as u16
+    }
+
     /// Moves a token over the connection at that place; false where none can move, and then nothing changed, as
     /// at want of memory.
     pub fn pass(&mut self, place: u16) -> Result<bool, OutOfMemory>
         ensures passed { IfOk result (λ moved. MatchBool moved (Steps self.old (Event.Pass (conn_id place)) self.new) (self.new ≡ self.old)) }
+        ensures few { length self.new.entries ≤ 2 ^ 30 }
         ensures stays { result ≡ Ok false → pass_at self.old.state.connections self.old.state.actors place ≡ None }
         ensures err { OnErr result (self.new ≡ self.old) }
     {
@@ -92,6 +109,7 @@ impl Node {
     /// of memory.
     pub fn fire(&mut self, alloc: Global, place: u16, action: u8) -> Result<bool, OutOfMemory>
         ensures fired { IfOk result (λ did. MatchBool did (Steps self.old (Event.Fire (actor_id place) action) self.new) (self.new ≡ self.old)) }
+        ensures few { length self.new.entries ≤ 2 ^ 30 }
         ensures stays { result ≡ Ok false → fire_at self.old.state.actors place action ≡ None }
         ensures err { OnErr result (self.new ≡ self.old) }
     {
@@ -132,7 +150,8 @@ fn connection(place: u16) -> ConnId
 
 /// The actors of a network at the start.
 fn starting_actors(alloc: Global, joins: &[Join], specs: &[ActorSpec]) -> Result<Vec<Live>, OutOfMemory>
-    ensures { IfOk result (λ actors. actors.items ≡ starting_from joins.now 0 specs.now) }
+    ensures actors { IfOk result (λ actors. actors.items ≡ starting_from joins.now 0 specs.now) }
+    ensures len { IfOk result (λ actors. vec_len actors ≡ length specs.now) }
 {
     let mut actors = Vec::with_capacity(alloc, specs.len())?;
     for (place, spec) in specs.iter().enumerate() {
@@ -165,6 +184,7 @@ fn feeds(joins: &[Join], place: usize, port: u8) -> bool
 fn fire_actor(alloc: Global, actors: &mut Vec<Live>, place: u16, action: u8) -> Result<bool, OutOfMemory>
     ensures ok { IfOk result (λ did. Becomes (fire_at actors.old.items place action) did actors.old.items actors.new.items) }
     ensures err { OnErr result (actors.new.items ≡ actors.old.items) }
+    ensures len { vec_len actors.new ≡ vec_len actors.old }
 {
     if place as usize >= actors.len() || !actors[place as usize].can_fire(action) {
         return Ok(false);
@@ -175,7 +195,8 @@ fn fire_actor(alloc: Global, actors: &mut Vec<Live>, place: u16, action: u8) -> 
 
 /// Moves a token over the connection at that place where one can move, and tells whether it did.
 fn move_token(connections: &[Join], actors: &mut Vec<Live>, place: u16) -> bool
-    ensures { Becomes (pass_at connections.now actors.old.items place) result actors.old.items actors.new.items }
+    ensures becomes { Becomes (pass_at connections.now actors.old.items place) result actors.old.items actors.new.items }
+    ensures len { vec_len actors.new ≡ vec_len actors.old }
 {
     let Some(join) = connections.get(place as usize) else { return false };
     if !has_token(actors.as_slice(), join) || !has_room(actors.as_slice(), join) {
