@@ -1,0 +1,12 @@
+//! The outside as traits: sources and sinks of bytes, each with a count of faults, and the gate of the workers.
+#![tactic(auto)]
+
+pub mod gate;
+pub mod sink;
+pub mod source;
+pub mod transfer;
+
+pub use gate::{Gate, OpenGate};
+pub use sink::{Sink, Took};
+pub use source::{Got, Source};
+pub use transfer::{ReadAll, WriteFault, read_all, write_all};
