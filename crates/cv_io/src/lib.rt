@@ -14,3 +14,6 @@ pub use memory::{MemSink, MemSource};
 pub use sink::{Sink, Took};
 pub use source::{Got, Source};
 pub use transfer::{ReadAll, WriteFault, read_all, write_all};
+
+#[cfg(test)]
+mod tests;

@@ -28,11 +28,11 @@ impl Model for MemSource {
     ghost Value = { Memory };
 
     ghost view = { λ s. record {
-        bytes = drop s.at s.bytes.items;
-        per = s.per;
-        fail_at = s.fail_at.items;
-        calls = s.calls;
-        faults = s.faults
+      bytes = drop s.at s.bytes.items;
+      per = s.per;
+      fail_at = s.fail_at.items;
+      calls = s.calls;
+      faults = s.faults;
     } };
 
     ghost invariant = { λ s. (s.at ≤ length s.bytes.items) × (0 < s.per) };
@@ -110,11 +110,11 @@ impl Model for MemSink {
     ghost Value = { Memory };
 
     ghost view = { λ s. record {
-        bytes = s.bytes.items;
-        per = s.per;
-        fail_at = s.fail_at.items;
-        calls = s.calls;
-        faults = s.faults
+      bytes = s.bytes.items;
+      per = s.per;
+      fail_at = s.fail_at.items;
+      calls = s.calls;
+      faults = s.faults;
     } };
 
     ghost invariant = { λ s. 0 < s.per };
