@@ -1,0 +1,19 @@
+-- What one call of a source or a sink does to the bytes that it tells of. Where it tells of none, nothing is said of them.
+use Rattle.std.specs.Prelude.{ℕ, ◌<◌, ◌≤◌, List, length, take}
+use Rattle.std.specs.declared.option.Option.{Option}
+use Rattle.std.specs.Io.KnownBytes.{Appends, Consumes, IsAtEnd, Keeps}
+use Rattle.cv_io.specs.declared.source.Got.{Got}
+use Rattle.cv_io.specs.declared.source.Got.TheVariants as got
+use Rattle.cv_io.specs.declared.sink.Took.{Took}
+use Rattle.cv_io.specs.declared.sink.Took.TheVariants as took
+
+-- a read gave the next bytes at the front of the buffer, or it came to the end, or it failed and all is left
+abbrev pub Gives : Option (List ℕ) → Option (List ℕ) → List ℕ → Got → Type 0
+Gives old new buf (got.Bytes n) = (0 < n) × (n ≤ length buf) × Consumes old new (take n buf)
+Gives old new buf got.End = Keeps old new × IsAtEnd new
+Gives old new buf got.Failed = Keeps old new
+
+-- a write took bytes from the front of the piece, or it failed and took nothing
+abbrev pub Takes : Option (List ℕ) → Option (List ℕ) → List ℕ → Took → Type 0
+Takes old new piece (took.Bytes n) = (0 < n) × (n ≤ length piece) × Appends old new (take n piece)
+Takes old new piece took.Failed = Keeps old new

@@ -1,0 +1,5 @@
+pub mod Adapter
+pub mod Bytes
+pub mod Faults
+pub mod Memory
+pub mod Whole
