@@ -1,2 +1,4 @@
+pub mod Forms
 pub mod Rising
+pub mod Spelling
 pub mod formers

@@ -6,9 +6,12 @@ pub mod identifiers;
 pub mod pairs;
 pub mod token;
 pub mod utf8;
+mod values;
+pub mod writing;
 
 pub use equality::{are_equal, are_equal_items, are_equal_pairs};
 pub use identifiers::{ActorId, AppId, ConnId};
 pub use pairs::{Pair, PairsOf};
 pub use token::{Items, OutOfMemory, Pairs, Token, copy_items, copy_pairs};
 pub use utf8::Text;
+pub use writing::text;
