@@ -1,5 +1,5 @@
 -- The definitions on trees, one level down.
-use Rattle.std.proofs.Common.{◌≡◌, ℕ, suc, ◌+◌, ◌&&◌, ◌==◌, if◌then◌else◌, List, [], ◌∷◌, ◌++◌, length, map, ap, ◌∙◌, sym, rules, arith, length-append}
+use Rattle.std.proofs.Common.{Bool, true, refl, ◌≡◌, ℕ, suc, ◌+◌, ◌&&◌, ◌==◌, if◌then◌else◌, List, [], ◌∷◌, ◌++◌, length, map, ap, ◌∙◌, sym, rules, arith, length-append}
 use Rattle.std.proofs.lemmas.Bool.{ne_eqb}
 use Rattle.std.specs.Str.{is_utf8}
 use Rattle.json.specs.Print.{quoted}
@@ -42,3 +42,6 @@ length-spelling-Dict (p ∷ ps) =
     ap length (spelling-Dict (p ∷ ps))
     ∙ item_taken 123 125 (quoted p.key ++ 58 ∷ spelling p.value) (behind_commas (members (on_values spelling ps)))
     ∙ ap (λ n. n + length (behind_commas (members (on_values spelling (p ∷ ps))))) (sym (some_brackets (length ps)))
+
+pub both_true : (a b c : Bool) → a ≡ true → b ≡ true → (a && (b && c)) ≡ c
+both_true a b c e f = rw (e, f) refl

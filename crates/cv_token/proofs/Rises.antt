@@ -1,5 +1,6 @@
 -- Rising keys, as a test.
-use Rattle.std.proofs.Common.{◌≡◌, ℕ, List, [], ◌∷◌, true, ◌&&◌, Less, nat_cmp, refl, ap, ap₂}
+use Rattle.std.proofs.Common.{◌≡◌, ℕ, List, [], ◌∷◌, true, ◌&&◌, Ordering, Less, Equal, Greater, nat_cmp, refl, ap, ap₂}
+use Rattle.std.proofs.lemmas.Bool.{and_parts}
 use Rattle.std.specs.Cmp.Lexicographic.{slice_cmp}
 use Rattle.std.specs.List.{AllByRecursion}
 use Rattle.std.specs.List.Sorted.{IsStrictlySortedBy}
@@ -17,3 +18,17 @@ pub are_rising-from_keys : {X Y : Type 0} → (f : X → Y) (ps : List (Pair X))
 unfolding IsStrictlySortedBy
 are_rising-from_keys f [] h = refl
 are_rising-from_keys f (p ∷ ps) h = ap₂ ◌&&◌ (below_all f p.key ps h.0) (are_rising-from_keys f ps h.1)
+
+less : (o : Ordering) → is_lt o ≡ true → o ≡ Less
+less Less e = refl
+less Equal e = cc
+less Greater e = cc
+
+all_below : {X : Type 0} → (k : List ℕ) (ps : List (Pair X)) → is_below_all k ps ≡ true → AllByRecursion (λ y. slice_cmp nat_cmp k y ≡ Less) (keys ps)
+all_below k [] e = tt
+all_below k (p ∷ ps) e = let h = and_parts _ _ e in (less _ h.0, all_below k ps h.1)
+
+pub AreRising-from_test : {X : Type 0} → (ps : List (Pair X)) → are_rising ps ≡ true → AreRising ps
+unfolding IsStrictlySortedBy
+AreRising-from_test [] e = tt
+AreRising-from_test (p ∷ ps) e = let h = and_parts _ _ e in (all_below p.key ps h.0, AreRising-from_test ps h.1)

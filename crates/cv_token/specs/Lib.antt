@@ -4,4 +4,6 @@ pub mod Reading
 pub mod Rising
 pub mod Shape
 pub mod Spelling
+pub mod Spells
+pub mod Taken
 pub mod formers

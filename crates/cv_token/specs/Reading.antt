@@ -4,8 +4,8 @@ use Rattle.std.specs.Str.{is_utf8}
 use Rattle.serde_json.specs.Data.{Data, depth as data_depth}
 use Rattle.serde_json.specs.Read.{read}
 use Rattle.cv_token.specs.declared.token.Token.{Token}
-use Rattle.cv_token.specs.declared.reading.TokenFault.{TokenFault}
-use Rattle.cv_token.specs.declared.reading.TokenFault.TheVariants.{NotJson, TooDeep, BadNumber, TooLarge, OutOfMemory}
+use Rattle.cv_token.specs.declared.fault.TokenFault.{TokenFault}
+use Rattle.cv_token.specs.declared.fault.TokenFault.TheVariants.{NotJson, TooDeep, BadNumber, TooLarge, OutOfMemory}
 use Rattle.cv_token.specs.Bounds.{most_depth, most_bytes}
 use Rattle.cv_token.specs.Forms.{token_of}
 use Rattle.cv_token.specs.Spelling.{spelling}
@@ -48,10 +48,3 @@ Fails OutOfMemory r = Unit {0}
 abbrev pub Answers : {T : Type 0} → Result T TokenFault → Result T TokenFault → Type 0
 Answers (Ok t) r = r ≡ Ok t
 Answers (Err e) r = Fails e r
-
--- the one fault of a part is the fault f; want of memory is free, and there is no other
-abbrev pub Only : TokenFault → TokenFault → Type 0 → Type 0
-Only NotJson NotJson P = P
-Only BadNumber BadNumber P = P
-Only f OutOfMemory P = Unit {0}
-Only f e P = ⊥

@@ -1,6 +1,7 @@
 //! Whether a token is within the bounds of those that are sent; no memory is taken.
 
-ghost use Rattle.std.specs.Prelude.{◌≡◌, ◌==◌, ◌↔◌, ◌&&◌, if◌then◌else◌, true, IsTrue, OnSome, length, map};
+ghost use Rattle.std.specs.Prelude.{◌≡◌, ◌==◌, ◌↔◌, ◌&&◌, if◌then◌else◌, ◌≤◌, true, IsTrue, OnSome, length, map};
+ghost use Rattle.std.specs.Bool.{OnTrue};
 ghost use Rattle.cv_token.specs.Bounds.{Fits, left};
 ghost use Rattle.cv_token.specs.Forms.{on_values};
 ghost use Rattle.cv_token.specs.Shape.{is_token, all_true, all_members, are_rising};
@@ -22,7 +23,15 @@ pub const MOST_BYTES: usize = 1024;
 pub fn fits(token: &Token) -> bool
     ensures { IsTrue result ↔ Fits token.now }
 {
-    nests_within(token, MOST_DEPTH) && left_after(MOST_BYTES, token).is_some()
+    nests_within(token, MOST_DEPTH) && is_short(token)
+}
+
+/// Whether the compact text has at most 1,024 bytes.
+pub(crate) fn is_short(token: &Token) -> bool
+    ensures short { IsTrue result ↔ (length (spelling token.now) ≤ 1024) }
+    ensures known { OnTrue result (is_token token.now ≡ true) }
+{
+    left_after(MOST_BYTES, token).is_some()
 }
 
 /// How many bytes the brackets round this many items take, where each item counts with a comma.
@@ -34,7 +43,7 @@ fn brackets(count: usize) -> usize
 
 /// What is left of the room once the token's text is written into it, where it is enough.
 #[cycle(pays)]
-pub(crate) fn left_after(room: usize, token: &Token) -> Option<usize>
+fn left_after(room: usize, token: &Token) -> Option<usize>
     ensures value { result ≡ left room (length (spelling token.now)) }
     ensures known { OnSome result (is_token token.now ≡ true) }
 {

@@ -3,7 +3,9 @@
 
 pub mod depth;
 pub mod equality;
+pub mod fault;
 pub mod fitting;
+mod found;
 pub mod identifiers;
 pub mod pairs;
 pub mod reading;
@@ -14,10 +16,11 @@ mod values;
 pub mod writing;
 
 pub use equality::{are_equal, are_equal_items, are_equal_pairs};
+pub use fault::TokenFault;
 pub use fitting::{MOST_BYTES, MOST_DEPTH, fits};
 pub use identifiers::{ActorId, AppId, ConnId};
 pub use pairs::{Pair, PairsOf};
-pub use reading::TokenFault;
+pub use reading::{read, read_spelled, read_tree};
 pub use token::{Items, OutOfMemory, Pairs, Token, copy_items, copy_pairs};
 pub use utf8::Text;
-pub use writing::text;
+pub use writing::{spells, text};

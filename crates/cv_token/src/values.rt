@@ -1,8 +1,9 @@
 //! The JSON value of a token.
 
-ghost use Rattle.std.specs.Prelude.{◌≡◌, IfOk, map};
+ghost use Rattle.std.specs.Prelude.{◌≡◌, ◌&&◌, true, IfOk, OnOk, map};
 ghost use Rattle.serde_json.specs.View.{view, items_of, items_view, members_view};
 ghost use Rattle.cv_token.specs.Forms.{data_of, on_values, members_from};
+ghost use Rattle.cv_token.specs.Shape.{is_token, all_true, all_members, are_rising};
 
 use crate::token::{Items, OutOfMemory, Pairs, Token};
 use serde_json::{Map, Number, Value};
@@ -10,7 +11,8 @@ use std::alloc::Global;
 
 #[cycle(value)]
 pub(crate) fn value_of(alloc: Global, token: &Token) -> Result<Value, OutOfMemory>
-    ensures { IfOk result (λ v. view v ≡ data_of token.now) }
+    ensures value { IfOk result (λ v. view v ≡ data_of token.now) }
+    ensures known { OnOk result (is_token token.now ≡ true) }
 {
     match token {
         Token::Null => Ok(Value::Null),
@@ -24,7 +26,8 @@ pub(crate) fn value_of(alloc: Global, token: &Token) -> Result<Value, OutOfMemor
 
 #[cycle(value)]
 fn values_of(alloc: Global, items: &Items) -> Result<Vec<Value>, OutOfMemory>
-    ensures { IfOk result (λ v. items_view v.items ≡ items_of (map data_of items.now)) }
+    ensures value { IfOk result (λ v. items_view v.items ≡ items_of (map data_of items.now)) }
+    ensures known { OnOk result (all_true (map is_token items.now) ≡ true) }
 {
     let mut values = Vec::new(alloc);
     for item in items.as_slice() {
@@ -35,8 +38,10 @@ fn values_of(alloc: Global, items: &Items) -> Result<Vec<Value>, OutOfMemory>
 
 #[cycle(value)]
 fn members_of(alloc: Global, pairs: &Pairs) -> Result<Map<String, Value>, OutOfMemory>
-    ensures { IfOk result (λ m. members_view m.entries
+    ensures value { IfOk result (λ m. members_view m.entries
         ≡ members_from (on_values data_of pairs.now)) }
+    ensures known { OnOk result ((are_rising (on_values is_token pairs.now)
+        && all_members (on_values is_token pairs.now)) ≡ true) }
 {
     let mut members = Map::new(alloc);
     for pair in pairs.as_slice() {

@@ -1,4 +1,4 @@
-use Rattle.std.proofs.Common.{◌≡◌, ℕ, ◌+◌, List, [], ◌∷◌, ◌++◌, length, drop, Bool, true, ◌&&◌, Some, refl, sym, ap, ap₂, ◌∙◌, subst, arith, length-append}
+use Rattle.std.proofs.Common.{◌≡◌, ℕ, ◌+◌, List, [], ◌∷◌, ◌++◌, length, drop, true, ◌&&◌, Some, sym, ap, ap₂, ◌∙◌, subst, arith, length-append}
 use Rattle.std.proofs.lemmas.List.{drop_more, drop_all}
 use Rattle.std.proofs.lemmas.Str.{is_utf8-from_IsUtf8}
 use Rattle.std.specs.Str.{IsUtf8}
@@ -7,7 +7,7 @@ use Rattle.cv_token.specs.Bounds.{left}
 use Rattle.cv_token.specs.Forms.{on_values}
 use Rattle.cv_token.specs.Shape.{is_token, all_members}
 use Rattle.cv_token.specs.Spelling.{spelling, behind_commas, members}
-use Rattle.cv_token.proofs.Levels.{brackets, is_token-Text, is_token-Dict, length-spelling-List, length-spelling-Dict}
+use Rattle.cv_token.proofs.Levels.{brackets, both_true, is_token-Text, is_token-Dict, length-spelling-List, length-spelling-Dict}
 use Rattle.cv_token.proofs.Paid.{pays_both, on_some, on_some_map}
 use Rattle.cv_token.proofs.Rises.{are_rising-from_keys}
 use Rattle.cv_token.proofs.fitting.+pays.Goals as goal
@@ -45,9 +45,6 @@ member_paid room r₁ r₂ r₃ k v b e₁ e₂ e₃ =
     let q = length (quoted k) in
     let total : 2 + (q + (length v + length b)) ≡ length (44 ∷ ((quoted k ++ 58 ∷ v) ++ b)) = omega (arith, length-append (quoted k ++ 58 ∷ v) b, length-append (quoted k) (58 ∷ v)) in
     sym (pays_both room 2 (q + (length v + length b)) r₁ e₁ ∙ pays_both r₁ q (length v + length b) r₂ e₂ ∙ pays_both r₂ (length v) (length b) r₃ e₃) ∙ ap (left room) total
-
-both_true : (a b c : Bool) → a ≡ true → b ≡ true → (a && (b && c)) ≡ c
-both_true a b c e f = rw (e, f) refl
 
 pub left_after_pairs-loop-pair-preserved : goal.left_after_pairs-loop-pair-preserved
 left_after_pairs-loop-pair-preserved t c =
