@@ -1,2 +1,9 @@
+pub mod Bounds
+pub mod Forms
+pub mod Reading
 pub mod Rising
+pub mod Shape
+pub mod Spelling
+pub mod Spells
+pub mod Taken
 pub mod formers

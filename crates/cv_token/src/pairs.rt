@@ -1,6 +1,6 @@
 //! `PairsOf`: pairs of a key and a value, whose keys rise by bytes.
 
-ghost use Rattle.std.specs.Prelude.{◌≡◌, [], ◌∷◌, ◌++◌, OnOk, OnErr};
+ghost use Rattle.std.specs.Prelude.{◌≡◌, ◌↔◌, [], ◌∷◌, ◌++◌, length, IsTrue, OnOk, OnErr};
 ghost use Rattle.cv_token.specs.Rising.{AreRising};
 
 use crate::utf8::Text;
@@ -50,6 +50,20 @@ impl<T> PairsOf<T> {
         ensures { result ≡ pairs }
     {
         PairsOf { pairs }
+    }
+
+    /// How many pairs there are.
+    pub fn len(&self) -> usize
+        ensures { result ≡ length self.now }
+    {
+        self.pairs.len()
+    }
+
+    /// Whether there are none.
+    pub fn is_empty(&self) -> bool
+        ensures { IsTrue result ↔ (self.now ≡ []) }
+    {
+        self.pairs.is_empty()
     }
 
     /// The pairs, in the order of their keys.

@@ -48,7 +48,7 @@ the_items_listed X (p ∷ ps) = ap (λ l. p.value ∷ l) (the_items_listed X ps)
 abbrev pub on_value : {X Y : Type 0} → (X → Y) → Pair X → Pair Y
 on_value h p = record { key = p.key; value = h p.value }
 
-keys_on_values : {X Y : Type 0} (h : X → Y) (ps : List (Pair X)) → keys (map (on_value h) ps) ≡ keys ps
+pub keys_on_values : {X Y : Type 0} (h : X → Y) (ps : List (Pair X)) → keys (map (on_value h) ps) ≡ keys ps
 keys_on_values h [] = refl
 keys_on_values h (p ∷ ps) = ap (λ l. p.key ∷ l) (keys_on_values h ps)
 

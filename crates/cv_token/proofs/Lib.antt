@@ -1,0 +1,14 @@
+pub mod Answered
+pub mod Backs
+pub mod Depths
+pub mod Encoded
+pub mod Formats
+pub mod Founds
+pub mod Keyed
+pub mod Lasts
+pub mod Levels
+pub mod Paid
+pub mod Rises
+pub mod Round
+pub mod Spelled
+pub mod Strict

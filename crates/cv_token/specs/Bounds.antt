@@ -1,0 +1,21 @@
+-- The bounds on a token that is sent: it nests at most 16 deep, and its text has at most 1,024 bytes.
+use Rattle.std.specs.Prelude.{◌≡◌, ◌≤◌, ℕ, ◌-◌, true, length, Option, Some, None, nat_le, if◌then◌else◌}
+use Rattle.cv_token.specs.declared.token.Token.{Token}
+use Rattle.cv_token.specs.Shape.{depth, is_token}
+use Rattle.cv_token.specs.Spelling.{spelling}
+
+abbrev pub most_depth : ℕ
+most_depth = 16
+
+abbrev pub most_bytes : ℕ
+most_bytes = 1024
+
+-- the tree is a token, and within both bounds
+pub record Fits (t : Token) : Type 0 where
+  pub token : is_token t ≡ true
+  pub shallow : depth t ≤ 16
+  pub short : length (spelling t) ≤ 1024
+
+-- what is left of the room once n is taken, where it is enough
+abbrev pub left : ℕ → ℕ → Option ℕ
+left room n = if nat_le n room then Some (room - n) else None
