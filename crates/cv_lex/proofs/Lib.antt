@@ -1,2 +1,4 @@
 pub mod Numerals
 pub mod Skips
+pub mod Pieces
+pub mod Found

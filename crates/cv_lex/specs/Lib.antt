@@ -1,4 +1,6 @@
 pub mod Bytes
-pub mod Numbers
+pub mod Cuts
 pub mod Fronts
 pub mod Lexemes
+pub mod Numbers
+pub mod Words

@@ -6,6 +6,10 @@ pub mod fronts;
 pub mod lexeme;
 pub mod lexing;
 pub mod numbers;
+pub mod word;
+pub mod wording;
 
 pub use lexeme::{LexFault, Lexeme, Sort};
 pub use lexing::lex;
+pub use word::{Mark, Placed, Reserved, Word};
+pub use wording::words;
