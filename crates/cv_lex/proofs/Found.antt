@@ -1,5 +1,5 @@
 -- Each lexeme of a source is a part of it that splits no character.
-use Rattle.std.proofs.Common.{◌≡◌, ℕ, zero, suc, ◌+◌, List, [], ◌∷◌, get_or, drop, Result, Ok, Err, refl, sym, ap, ◌∙◌, subst, add-one, arith}
+use Rattle.std.proofs.Common.{◌≡◌, ℕ, zero, suc, ◌+◌, ◌-◌, List, [], ◌∷◌, get_or, drop, Result, Ok, Err, refl, ap, ◌∙◌, subst, add-one, arith}
 use Rattle.std.specs.Str.{IsUtf8, IsCharBoundary}
 use Rattle.std.specs.List.{All, AllByRecursion}
 use Rattle.std.proofs.lemmas.Str.{IsCharBoundary-before_ascii, IsCharBoundary-after_ascii}
@@ -13,7 +13,7 @@ use Rattle.cv_lex.specs.declared.fronts.Front.TheVariants as fronts
 use Rattle.cv_lex.specs.Cuts.{IsCut}
 use Rattle.cv_lex.specs.Fronts.{front_of}
 use Rattle.cv_lex.specs.Lexemes.{lexemes, by_front, with_front}
-use Rattle.cv_lex.proofs.Pieces.{IsPiece, piece}
+use Rattle.cv_lex.proofs.Edges.{IsPiece, piece}
 
 abbrev AllCut : List ℕ → List Lexeme → Type 0
 AllCut source = AllByRecursion (IsCut source)
@@ -24,12 +24,16 @@ cut source at sort more u p =
     let first : get_or (drop at source) 0 0 ≡ get_or source at 0 = get_or-drop at source 0 0 ∙ ap (λ n. get_or source n 0) (omega arith) in
     let last = get_or-drop at source more 0 in
     let size = length-drop at source in
-    let ends : at + (more + 1) ≡ at + more + 1 = omega arith in
+    let ends : at + more + 1 ≡ at + (more + 1) = omega arith in
+    let lasts : at + more ≡ at + (more + 1) - 1 = omega arith in
     record {
       some = omega arith;
+      quotes = λ e. omega (arith, p.3 e);
       within = omega (arith, p.0);
       start = IsCharBoundary-before_ascii source at (omega (arith, p.0)) (omega (arith, p.1));
-      end = subst (IsCharBoundary source) (sym ends) (IsCharBoundary-after_ascii source (at + more) u (omega (arith, p.0)) (omega (arith, p.2)));
+      opened = IsCharBoundary-after_ascii source at u (omega (arith, p.0)) (omega (arith, p.1));
+      closed = subst (IsCharBoundary source) lasts (IsCharBoundary-before_ascii source (at + more) (omega (arith, p.0)) (omega (arith, p.2)));
+      end = subst (IsCharBoundary source) ends (IsCharBoundary-after_ascii source (at + more) u (omega (arith, p.0)) (omega (arith, p.2)));
     }
 
 -- the lexemes behind one are those behind it

@@ -27,7 +27,10 @@ lexemes at zero (x ∷ rest) = by_front at (front_of at (x ∷ rest)) (λ k. lex
 -- an answer that is a fault: want of memory may come at any time, each other fault is the text's
 abbrev pub Fails : LexFault → Result (List Lexeme) LexFault → Type 0
 Fails (faults.BadChar at) answer = answer ≡ Err (faults.BadChar at)
+Fails (faults.OpenText at) answer = answer ≡ Err (faults.OpenText at)
+Fails (faults.OpenComment at) answer = answer ≡ Err (faults.OpenComment at)
 Fails (faults.WideNumber at) answer = answer ≡ Err (faults.WideNumber at)
+Fails (faults.BadEscape at) answer = answer ≡ Err (faults.BadEscape at)
 Fails (faults.LongName at) answer = answer ≡ Err (faults.LongName at)
 Fails faults.OutOfMemory answer = Unit {0}
 

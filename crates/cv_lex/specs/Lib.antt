@@ -3,4 +3,7 @@ pub mod Cuts
 pub mod Fronts
 pub mod Lexemes
 pub mod Numbers
+pub mod Pieces
+pub mod Spans
+pub mod Texts
 pub mod Words

@@ -1,5 +1,5 @@
 -- The words that lexemes are.
-use Rattle.std.specs.Prelude.{ℕ, ◌+◌, ◌==◌, pos, if◌then◌else◌, Option, Some, None, unwrap_or, List, codes, slice_index, slice_range}
+use Rattle.std.specs.Prelude.{ℕ, ◌+◌, ◌-◌, ◌==◌, pos, if◌then◌else◌, Option, Some, None, unwrap_or, List, codes, slice_index, slice_range}
 use Rattle.std.specs.Str.{bytes_eq}
 use Rattle.cv_lex.specs.declared.lexeme.Sort.{Sort}
 use Rattle.cv_lex.specs.declared.lexeme.Sort.TheVariants as sorts
@@ -12,22 +12,31 @@ use Rattle.cv_lex.specs.declared.word.Word.{Word}
 use Rattle.cv_lex.specs.declared.word.Word.TheVariants as words
 use Rattle.cv_lex.specs.declared.word.Placed.{Placed}
 use Rattle.cv_lex.specs.Numbers.{int_of}
+use Rattle.cv_lex.specs.Texts.{said}
 
 -- the bytes of a lexeme
 abbrev pub bytes_of : List ℕ → Lexeme → List ℕ
 bytes_of source lexeme = slice_range source lexeme.at (lexeme.at + lexeme.len)
 
--- the mark that begins with this byte
+-- the mark that begins with the first byte; `-` begins only `->`
 abbrev pub mark_of : List ℕ → Mark
 mark_of bytes =
     let first = slice_index bytes 0 in
     if first == 40 then marks.OpenParen
     else (if first == 41 then marks.CloseParen
-    else (if first == 46 then marks.Dot
+    else (if first == 123 then marks.OpenBrace
+    else (if first == 125 then marks.CloseBrace
+    else (if first == 91 then marks.OpenBracket
+    else (if first == 93 then marks.CloseBracket
     else (if first == 44 then marks.Comma
     else (if first == 58 then marks.Colon
+    else (if first == 46 then marks.Dot
     else (if first == 61 then marks.Equals
-    else marks.Greater)))))
+    else (if first == 62 then marks.Greater
+    else (if first == 38 then marks.Ampersand
+    else (if first == 124 then marks.Bar
+    else (if first == 126 then marks.Tilde
+    else marks.Arrow)))))))))))))
 
 -- the reserved name that a name is
 abbrev pub reserved_of : List ℕ → Option Reserved
@@ -47,14 +56,18 @@ abbrev pub name_word : List ℕ → Option Reserved → Word
 name_word bytes (Some word) = words.Reserved word
 name_word bytes None = words.Name bytes
 
--- what the bytes of a lexeme of a sort say
-abbrev pub word_of : Sort → List ℕ → Word
-word_of sorts.Name bytes = name_word bytes (reserved_of bytes)
-word_of sorts.Int bytes = words.Int (unwrap_or (int_of bytes) (pos 0))
-word_of sorts.Fraction bytes = words.Fraction bytes
-word_of sorts.Text bytes = words.Text bytes
-word_of sorts.Mark bytes = words.Mark (mark_of bytes)
+-- the bytes between the quotes of a text
+abbrev pub inside_of : List ℕ → Lexeme → List ℕ
+inside_of source lexeme = slice_range source (lexeme.at + 1) (lexeme.at + lexeme.len - 1)
+
+-- what a lexeme of a sort says, by its bytes and by those between its quotes
+abbrev pub word_of : Sort → List ℕ → List ℕ → Word
+word_of sorts.Name bytes inside = name_word bytes (reserved_of bytes)
+word_of sorts.Int bytes inside = words.Int (unwrap_or (int_of bytes) (pos 0))
+word_of sorts.Fraction bytes inside = words.Fraction bytes
+word_of sorts.Text bytes inside = words.Text (said inside)
+word_of sorts.Mark bytes inside = words.Mark (mark_of bytes)
 
 -- the word that a lexeme of the source is, with its place
 abbrev pub placed_word : List ℕ → Lexeme → Placed
-placed_word source lexeme = record { word = word_of lexeme.sort (bytes_of source lexeme); at = lexeme.at }
+placed_word source lexeme = record { word = word_of lexeme.sort (bytes_of source lexeme) (inside_of source lexeme); at = lexeme.at }

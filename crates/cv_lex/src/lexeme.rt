@@ -25,8 +25,14 @@ pub struct Lexeme {
 pub enum LexFault {
     /// A character that begins no lexeme.
     BadChar { at: u32 },
+    /// A quoted text that never ends, at its quote.
+    OpenText { at: u32 },
+    /// A comment that never ends, at its first byte.
+    OpenComment { at: u32 },
     /// An integer outside 64 signed bits, at its first byte.
     WideNumber { at: u32 },
+    /// An escape that says no character, or half of a pair of surrogates, at its `\`.
+    BadEscape { at: u32 },
     /// A name of more than 64 bytes, at its first byte.
     LongName { at: u32 },
     /// Want of memory.

@@ -2,10 +2,13 @@
 #![tactic(auto)]
 
 pub mod classes;
+pub mod escapes;
 pub mod fronts;
 pub mod lexeme;
 pub mod lexing;
 pub mod numbers;
+pub mod saying;
+pub mod spans;
 pub mod word;
 pub mod wording;
 

@@ -10,11 +10,19 @@ use cv_token::Text;
 pub enum Mark {
     OpenParen,
     CloseParen,
-    Dot,
+    OpenBrace,
+    CloseBrace,
+    OpenBracket,
+    CloseBracket,
     Comma,
     Colon,
+    Dot,
     Equals,
     Greater,
+    Ampersand,
+    Bar,
+    Tilde,
+    Arrow,
 }
 
 /// The names that a script keeps for itself.
@@ -49,7 +57,7 @@ pub struct Placed {
     pub at: u32,
 }
 
-/// The mark that the bytes of a mark's lexeme spell; the first of them tells it.
+/// The mark that the bytes of a mark's lexeme spell; the first of them tells it, since `-` begins only `->`.
 pub fn mark_of(bytes: &[u8]) -> Mark
     requires { 0 < length bytes.now }
     ensures { result ≡ mark_of bytes.now }
@@ -57,11 +65,19 @@ pub fn mark_of(bytes: &[u8]) -> Mark
     match bytes[0] {
         b'(' => Mark::OpenParen,
         b')' => Mark::CloseParen,
-        b'.' => Mark::Dot,
+        b'{' => Mark::OpenBrace,
+        b'}' => Mark::CloseBrace,
+        b'[' => Mark::OpenBracket,
+        b']' => Mark::CloseBracket,
         b',' => Mark::Comma,
         b':' => Mark::Colon,
+        b'.' => Mark::Dot,
         b'=' => Mark::Equals,
-        _ => Mark::Greater,
+        b'>' => Mark::Greater,
+        b'&' => Mark::Ampersand,
+        b'|' => Mark::Bar,
+        b'~' => Mark::Tilde,
+        _ => Mark::Arrow,
     }
 }
 

@@ -1,12 +1,13 @@
 //! Lexemes turned into words.
 
-ghost use Rattle.std.specs.Prelude.{◌≡◌, ◌<◌, length, map, Ok, IfOk};
+ghost use Rattle.std.specs.Prelude.{◌≡◌, ◌<◌, ◌≤◌, length, map, Ok, IfOk};
 ghost use Rattle.cv_lex.specs.Cuts.{IsCut};
 ghost use Rattle.cv_lex.specs.Lexemes.{lexemes};
-ghost use Rattle.cv_lex.specs.Words.{name_word, reserved_of, word_of, bytes_of, placed_word};
+ghost use Rattle.cv_lex.specs.Words.{name_word, reserved_of, bytes_of, inside_of, placed_word};
 
 use crate::lexeme::{Lexeme, Sort};
 use crate::numbers::int_value;
+use crate::saying::said;
 use crate::word::{Placed, Word, mark_of, reserved_of};
 use cv_token::{OutOfMemory, Text};
 use std::alloc::Global;
@@ -28,20 +29,6 @@ fn name_word(alloc: Global, name: &str) -> Result<Word, OutOfMemory>
     }
 }
 
-/// The word that the bytes of a lexeme are.
-fn word_of(alloc: Global, sort: Sort, part: &str) -> Result<Word, OutOfMemory>
-    requires { 0 < length part.now }
-    ensures { IfOk result (λ word. word ≡ word_of sort part.now) }
-{
-    match sort {
-        Sort::Name => name_word(alloc, part),
-        Sort::Int => Ok(Word::Int(int_value(part.as_bytes()).unwrap_or(0))),
-        Sort::Fraction => Ok(Word::Fraction(owned(alloc, part)?)),
-        Sort::Text => Ok(Word::Text(owned(alloc, part)?)),
-        Sort::Mark => Ok(Word::Mark(mark_of(part.as_bytes()))),
-    }
-}
-
 /// The part of the source that a lexeme is.
 fn part_of<'a>(source: &'a str, lexeme: &Lexeme) -> &'a str
     requires { IsCut source.now lexeme.now }
@@ -53,6 +40,32 @@ fn part_of<'a>(source: &'a str, lexeme: &Lexeme) -> &'a str
     &source[from..to]
 }
 
+/// The part of the source between the quotes of a text.
+fn inside_of<'a>(source: &'a str, lexeme: &Lexeme) -> &'a str
+    requires cut { IsCut source.now lexeme.now }
+    requires quotes { 2 ≤ lexeme.now.len }
+    ensures { result.now ≡ inside_of source.now lexeme.now }
+{
+    let from = lexeme.at as usize;
+    let to = from + lexeme.len as usize;
+    &source[from + 1..to - 1]
+}
+
+/// The word that a lexeme of the source is.
+fn word_of(alloc: Global, source: &str, lexeme: &Lexeme) -> Result<Word, OutOfMemory>
+    requires { IsCut source.now lexeme.now }
+    ensures { IfOk result (λ word. word ≡ (placed_word source.now lexeme.now).word) }
+{
+    let part = part_of(source, lexeme);
+    match lexeme.sort {
+        Sort::Name => name_word(alloc, part),
+        Sort::Int => Ok(Word::Int(int_value(part.as_bytes()).unwrap_or(0))),
+        Sort::Fraction => Ok(Word::Fraction(owned(alloc, part)?)),
+        Sort::Text => Ok(Word::Text(said(alloc, inside_of(source, lexeme))?)),
+        Sort::Mark => Ok(Word::Mark(mark_of(part.as_bytes()))),
+    }
+}
+
 /// The words that the lexemes of a source are, with their places.
 pub fn words(alloc: Global, source: &str, found: &[Lexeme]) -> Result<Vec<Placed>, OutOfMemory>
     requires { lexemes 0 0 source.now ≡ Ok found.now }
@@ -60,7 +73,7 @@ pub fn words(alloc: Global, source: &str, found: &[Lexeme]) -> Result<Vec<Placed
 {
     let mut words = Vec::new(alloc);
     for lexeme in found {
-        let word = word_of(alloc, lexeme.sort, part_of(source, lexeme))?;
+        let word = word_of(alloc, source, lexeme)?;
         words.push(Placed {
             word,
             at: lexeme.at,
