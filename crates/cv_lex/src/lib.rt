@@ -16,3 +16,6 @@ pub use lexeme::{LexFault, Lexeme, Sort};
 pub use lexing::lex;
 pub use word::{Mark, Placed, Reserved, Word};
 pub use wording::words;
+
+#[cfg(test)]
+mod tests;
