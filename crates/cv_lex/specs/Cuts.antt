@@ -1,0 +1,15 @@
+-- Where a lexeme stands in a text of UTF-8.
+use Rattle.std.specs.Prelude.{◌≡◌, ℕ, ◌+◌, ◌-◌, ◌<◌, ◌≤◌, List, length}
+use Rattle.std.specs.Str.{IsCharBoundary}
+use Rattle.cv_lex.specs.declared.lexeme.Sort.TheVariants as sorts
+use Rattle.cv_lex.specs.declared.lexeme.Lexeme.{Lexeme}
+
+-- the lexeme has bytes, they are in the source, and neither they nor those between the first and the last split a character
+pub record IsCut (source : List ℕ) (lexeme : Lexeme) : Type 0 where
+  pub some : 0 < lexeme.len
+  pub quotes : lexeme.sort ≡ sorts.Text → 2 ≤ lexeme.len
+  pub within : lexeme.at + lexeme.len ≤ length source
+  pub start : IsCharBoundary source lexeme.at
+  pub opened : IsCharBoundary source (lexeme.at + 1)
+  pub closed : IsCharBoundary source (lexeme.at + lexeme.len - 1)
+  pub end : IsCharBoundary source (lexeme.at + lexeme.len)

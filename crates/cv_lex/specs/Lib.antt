@@ -1,0 +1,9 @@
+pub mod Bytes
+pub mod Cuts
+pub mod Fronts
+pub mod Lexemes
+pub mod Numbers
+pub mod Pieces
+pub mod Spans
+pub mod Texts
+pub mod Words

@@ -1,0 +1,44 @@
+//! A text cut into its lexemes.
+
+ghost use Rattle.std.specs.Prelude.{◌≡◌, ◌+◌, ◌<◌, ◌≤◌, ◌^◌, length, drop, IfOk, IfErr};
+ghost use Rattle.cv_lex.specs.Lexemes.{lexemes, with_front, Fails, Gives};
+
+use crate::fronts::{Front, at_front};
+use crate::lexeme::{LexFault, Lexeme, Sort};
+use std::alloc::Global;
+
+/// Takes what stands at the front, keeps it if it is a lexeme, and answers how many bytes it has.
+fn take_front(found: &mut Vec<Lexeme>, rest: &[u8], at: u32) -> Result<usize, LexFault>
+    requires some { 0 < length rest.now }
+    requires small { at + length rest.now ≤ 2 ^ 31 }
+    ensures taken { IfOk result (λ n. (0 < n) × (n ≤ length rest.now)) }
+    ensures ok { IfOk result (λ n. with_front found.old.items (lexemes at 0 rest.now)
+        ≡ with_front found.new.items (lexemes (at + n) 0 (drop n rest.now))) }
+    ensures err { IfErr result (λ fault. Fails fault (lexemes at 0 rest.now)) }
+{
+    match at_front(rest, at) {
+        Front::Blank(more) => Ok(more + 1),
+        Front::Lexeme(sort, more) => {
+            let len = more as u32 + 1;
+            found.push(Lexeme { sort, at, len })?;
+            Ok(more + 1)
+        }
+        Front::Flaw(fault) => Err(fault),
+    }
+}
+
+/// The lexemes of a script, in order.
+pub fn lex(alloc: Global, source: &str) -> Result<Vec<Lexeme>, LexFault>
+    requires { length source.now ≤ 2 ^ 31 }
+    ensures { Gives result (lexemes 0 0 source.now) }
+{
+    let mut found = Vec::new(alloc);
+    let mut rest = source.as_bytes();
+    let mut at = 0;
+    while !rest.is_empty() {
+        let taken = take_front(&mut found, rest, at)?;
+        rest = rest.split_at(taken).1;
+        at += taken as u32;
+    }
+    Ok(found)
+}

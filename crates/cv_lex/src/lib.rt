@@ -1,0 +1,21 @@
+//! The lexemes of a script, and the words that they are.
+#![tactic(auto)]
+
+pub mod classes;
+pub mod escapes;
+pub mod fronts;
+pub mod lexeme;
+pub mod lexing;
+pub mod numbers;
+pub mod saying;
+pub mod spans;
+pub mod word;
+pub mod wording;
+
+pub use lexeme::{LexFault, Lexeme, Sort};
+pub use lexing::lex;
+pub use word::{Mark, Placed, Reserved, Word};
+pub use wording::words;
+
+#[cfg(test)]
+mod tests;
