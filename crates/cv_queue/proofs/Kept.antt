@@ -1,13 +1,18 @@
 -- Each call keeps a port's positions in order.
-use Rattle.std.proofs.Common.{◌≡◌, ℕ, ◌+◌, ◌-◌, ◌^◌, ◌<◌, ◌≤◌, inl, inr, List, [], ◌∷◌, ◌++◌, length, map, Some, refl, ap, subst, arith, length-append, length-drop}
-use Rattle.std.specs.Prelude.{slice_get, slice_set, Option, IsSomeAnd}
+use Rattle.std.proofs.Common.{◌≡◌, ℕ, ◌+◌, ◌-◌, ◌^◌, ◌<◌, ◌≤◌, ◌⊎◌, inl, inr, List, [], ◌∷◌, ◌++◌, length, map, Option, Some, None, refl, sym, ap, subst, arith, length-append, length-drop}
+use Rattle.std.specs.Prelude.{slice_get, slice_set, IsSomeAnd, OnSome}
+use Rattle.std.specs.Option.{option_map}
 use Rattle.std.proofs.lemmas.List.{length-set}
 use Rattle.cv_token.specs.declared.token.Token.{Token}
 use Rattle.cv_queue.specs.declared.reader.Reader.{Reader}
 use Rattle.cv_queue.specs.declared.reader.Subscription.{Subscription}
-use Rattle.cv_queue.specs.Ports.{OutView, IsOutPort, AreWritten, new_out, out_at, reader_from, count, count_of, spread, space, first_needed, first_needed_from, first_held, with_reader, released, HasUnsent}
+use Rattle.cv_queue.specs.Ports.{OutView, IsOutPort, AreWritten, place, count, count_of, spread, space, first_needed, first_needed_from, first_held, with_reader, released, HasUnsent, token_for, new_out, out_at, reader_from}
 use Rattle.cv_queue.proofs.Lists.{slice_get_written, slice_get_some, slice_get_mapped}
-use Rattle.cv_queue.proofs.Positions.{first_needed_le, first_needed_any, first_needed_before, first_needed_rises, first_needed_stays, place_rises, count_rises, someone_next}
+use Rattle.cv_queue.proofs.Positions.{first_needed_le, first_needed_any, first_needed_before, first_needed_rises, first_needed_stays, place_rises, place_written, place_unwritten, count_rises, count_within, someone_next}
+use Rattle.std.proofs.lemmas.Option.{slice_get_past}
+use Rattle.std.proofs.lemmas.Bool.{cases_lt}
+use Rattle.std.proofs.lemmas.Bool.Decides.{nat_tests}
+use Rattle.std.proofs.lemmas.Grind.{common_steps}
 
 -- the number of readers stays, so tokens are dealt as before
 pub first_needed_written : (o : OutView) (k : ℕ) (r : Reader) (acked sent : ℕ) → first_needed (with_reader o k r acked sent) ≡ first_needed_from (spread o) o.write 0 (slice_set o.readers k (record r { acked = acked; sent = sent }))
@@ -157,3 +162,34 @@ is_out_at cap written held readers a b c d e =
 
 pub are_written_at : (o : OutView) → IsOutPort o → AreWritten o.write o.readers
 are_written_at o p k r g = omega (arith, (p.in_order k r g).0, (p.in_order k r g).1)
+
+-- 4. Which of a reader's tokens are held
+
+-- only those that were written
+held_below : (o : OutView) (k n : ℕ) (t : Token) → IsOutPort o → (n < count_of o k) ⊎ (count_of o k ≤ n) → token_for o k n ≡ Some t → n < count_of o k
+held_below o k n t p (inl l) h = l
+held_below o k n t p (inr l) h =
+    let w = place_unwritten (spread o) o.write k n l in
+    let x : length o.held ≤ place (spread o) k n - first_held o = omega (arith, w, p.held_from) in
+    let y = slice_get_past o.held (place (spread o) k n - first_held o) x in
+    absurd (grind (arith, nat_tests, common_steps, y, h))
+
+pub held_is_written : (o : OutView) (k n : ℕ) (t : Token) → IsOutPort o → token_for o k n ≡ Some t → n < count_of o k
+held_is_written o k n t p h = held_below o k n t p (cases_lt n (count_of o k)) h
+
+-- every one that was written and that the reader has not acknowledged
+pub on_held : {R : Type 0} (v : R → Token) (r : Option R) (o : OutView) (k n : ℕ) → IsOutPort o → option_map v r ≡ token_for o k n → OnSome r ((n < count_of o k) × (n < 2 ^ 62))
+on_held v None o k n p h = tt
+on_held v (Some x) o k n p h =
+    let l = held_is_written o k n (v x) p (sym h) in
+    (l, omega (arith, l, count_within (spread o) o.write k, p.bounded))
+
+pub unacknowledged_is_held : (o : OutView) (k n : ℕ) (r : Reader) → IsOutPort o → slice_get o.readers k ≡ Some r → r.acked ≤ n → n < count_of o k → (t : Token) × (token_for o k n ≡ Some t)
+unacknowledged_is_held o k n r p g a b =
+    let f = first_needed_any (spread o) o.write o.readers k r g in
+    let m = place_rises (spread o) k r.acked n a in
+    let w = place_written (spread o) o.write k n b in
+    let x : place (spread o) k n - first_held o < length o.held = omega (arith, f, m, w, p.held_from) in
+    let y : first_held o ≤ place (spread o) k n = omega (arith, f, m, p.held_from) in
+    let s = slice_get_some o.held (place (spread o) k n - first_held o) x in
+    (s.0, grind (arith, nat_tests, s.1, y))

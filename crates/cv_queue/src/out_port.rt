@@ -1,6 +1,6 @@
 //! `OutPort`: the tokens that an actor wrote and that some reader still needs.
 
-ghost use Rattle.std.specs.Prelude.{◌≡◌, ℕ, ◌+◌, ◌-◌, ◌^◌, ◌<◌, ◌≤◌, ◌↔◌, length, map, slice_get, Some, IfOk, IsSomeAnd, IsTrue, SomeIff};
+ghost use Rattle.std.specs.Prelude.{◌≡◌, ℕ, ◌+◌, ◌-◌, ◌^◌, ◌<◌, ◌≤◌, ◌↔◌, length, map, slice_get, Some, IfOk, IfSome, OnSome, IsSomeAnd, IsTrue, SomeIff};
 ghost use Rattle.std.specs.Option.{option_copied};
 ghost use Rattle.cv_queue.specs.Ports.{place, reader_from, count, IsOutPort, AreWritten, count_of, first_needed_from, new_out, out_at, space, token_at, token_for, after_write, acknowledges, after_ack, after_rewind, after_sent, HasUnsent};
 
@@ -176,7 +176,8 @@ impl OutPort {
 
     /// The reader at place `i`, where there is one.
     pub fn reader(&self, i: u16) -> Option<Reader>
-        ensures { result ≡ slice_get self.now.readers i }
+        ensures value { result ≡ slice_get self.now.readers i }
+        ensures positions { IfSome result (λ r. (r.acked ≤ r.sent) × (r.sent ≤ count_of self.now i)) }
     {
         self.readers.get(usize::from(i)).copied()
     }
@@ -203,8 +204,10 @@ impl OutPort {
     /// The reader's token number `n`, where it is held.
     pub fn token_for(&self, reader: u16, n: u64) -> Option<&Token>
         requires { reader < length self.now.readers }
-        ensures { option_copied result ≡ token_for self.now reader n }
+        ensures value { option_copied result ≡ token_for self.now reader n }
+        ensures written { OnSome result ((n < count_of self.now reader) × (n < 2 ^ 62)) }
     {
+        let _write = self.write;
         self.token_at(place_among(self.readers.len(), usize::from(reader), n))
     }
 
