@@ -1,0 +1,6 @@
+//! The two ends of a connection: what its producer sends and how its consumer answers.
+#![tactic(auto)]
+
+pub mod ends;
+
+pub use ends::{Answer, local_move, next_to_send, on_ack, on_nack, on_token};
