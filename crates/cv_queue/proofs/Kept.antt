@@ -1,15 +1,15 @@
 -- Each call keeps a port's positions in order.
-use Rattle.std.proofs.Common.{◌≡◌, ℕ, ◌+◌, ◌-◌, ◌^◌, ◌<◌, ◌≤◌, ◌⊎◌, inl, inr, List, [], ◌∷◌, ◌++◌, length, map, Option, Some, None, refl, sym, ap, subst, arith, length-append, length-drop}
-use Rattle.std.specs.Prelude.{slice_get, slice_set, IsSomeAnd, OnSome}
+use Rattle.std.proofs.Common.{◌≡◌, ℕ, ◌+◌, ◌-◌, ◌^◌, ◌<◌, ◌≤◌, ◌⊎◌, inl, inr, List, [], ◌∷◌, ◌++◌, length, map, Option, Some, None, refl, ◌∙◌, sym, ap, subst, arith, length-append, length-drop}
+use Rattle.std.specs.Prelude.{IsSome, slice_get, slice_set, IsSomeAnd, OnSome}
 use Rattle.std.specs.Option.{option_map}
 use Rattle.std.proofs.lemmas.List.{length-set}
 use Rattle.cv_token.specs.declared.token.Token.{Token}
 use Rattle.cv_queue.specs.declared.reader.Reader.{Reader}
 use Rattle.cv_queue.specs.declared.reader.Subscription.{Subscription}
-use Rattle.cv_queue.specs.Ports.{OutView, IsOutPort, AreWritten, place, count, count_of, spread, space, first_needed, first_needed_from, first_held, with_reader, released, HasUnsent, token_for, new_out, out_at, reader_from}
+use Rattle.cv_queue.specs.Ports.{OutView, IsOutPort, AreWritten, place, count, count_of, spread, space, first_needed, first_needed_from, first_held, with_reader, released, HasUnsent, IsThere, token_for, new_out, out_at, reader_from}
 use Rattle.cv_queue.proofs.Lists.{slice_get_written, slice_get_some, slice_get_mapped}
 use Rattle.cv_queue.proofs.Positions.{first_needed_le, first_needed_any, first_needed_before, first_needed_rises, first_needed_stays, place_rises, place_written, place_unwritten, count_rises, count_within, someone_next}
-use Rattle.std.proofs.lemmas.Option.{slice_get_past}
+use Rattle.std.proofs.lemmas.Option.{slice_get_past, none-some as none_some}
 use Rattle.std.proofs.lemmas.Bool.{cases_lt}
 use Rattle.std.proofs.lemmas.Bool.Decides.{nat_tests}
 use Rattle.std.proofs.lemmas.Grind.{common_steps}
@@ -193,3 +193,13 @@ unacknowledged_is_held o k n r p g a b =
     let y : first_held o ≤ place (spread o) k n = omega (arith, f, m, p.held_from) in
     let s = slice_get_some o.held (place (spread o) k n - first_held o) x in
     (s.0, grind (arith, nat_tests, s.1, y))
+
+pub is_there : (o : OutView) (k n : ℕ) (r : Option Reader) → IsOutPort o → slice_get o.readers k ≡ r → IsThere o k n r → (t : Token) × (token_for o k n ≡ Some t)
+is_there o k n None p g h = absurd h
+is_there o k n (Some r) p g h = unacknowledged_is_held o k n r p g h.0 h.1
+
+pub on_there : {R : Type 0} (v : R → Token) (a : Option R) (o : OutView) (k n : ℕ) → IsOutPort o → option_map v a ≡ token_for o k n → IsThere o k n (slice_get o.readers k) → IsSome a
+on_there v None o k n p e h =
+    let t = is_there o k n (slice_get o.readers k) p refl h in
+    absurd (none_some t.0 (e ∙ t.1))
+on_there v (Some x) o k n p e h = refl

@@ -35,6 +35,15 @@ pub someone_next : (s w : ℕ) → 0 < s → (k : ℕ) × (k < s) × (place s k 
 unfolding place count
 someone_next s w h = (0, h, refl)
 
+-- of one more token the reader has one more whose next token stands there, and no other
+pub count_dealt : (s w k : ℕ) → place s k (count s w k) ≡ w → count s (w + 1) k ≡ count s w k + 1
+unfolding place count
+count_dealt s w k h = refl
+
+pub count_passed : (s w k : ℕ) → (place s k (count s w k) ≡ w → ⊥) → count s (w + 1) k ≡ count s w k
+unfolding place count
+count_passed s w k h = absurd (h refl)
+
 -- 2. The first token that is needed
 
 pub first_needed_le : (s w k : ℕ) (rs : List Reader) → first_needed_from s w k rs ≤ w

@@ -190,6 +190,11 @@ after_sent o k = marked_sent o k (slice_get o.readers k)
 abbrev pub HasUnsent : OutView → ℕ → Reader → Type 0
 HasUnsent o k r = r.sent < count_of o k
 
+-- Whether reader k, which stands as shown, has a token number n that it has not acknowledged.
+abbrev pub IsThere : OutView → ℕ → ℕ → Option Reader → Type 0
+IsThere o k n None = ⊥
+IsThere o k n (Some r) = (r.acked ≤ n) × (n < count_of o k)
+
 -- 5. The calls of an inport
 
 -- How the port answers token number n: a number below `received` is old, one above leaves a gap, and

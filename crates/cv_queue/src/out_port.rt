@@ -1,8 +1,8 @@
 //! `OutPort`: the tokens that an actor wrote and that some reader still needs.
 
-ghost use Rattle.std.specs.Prelude.{◌≡◌, ℕ, ◌+◌, ◌-◌, ◌^◌, ◌<◌, ◌≤◌, ◌↔◌, length, map, slice_get, Some, IfOk, IfSome, OnSome, IsSomeAnd, IsTrue, SomeIff};
+ghost use Rattle.std.specs.Prelude.{◌≡◌, ℕ, ◌+◌, ◌-◌, ◌^◌, ◌<◌, ◌≤◌, ◌↔◌, length, map, slice_get, Some, IfOk, IfSome, OnSome, IsSomeAnd, IsSome, IsTrue, SomeIff};
 ghost use Rattle.std.specs.Option.{option_copied};
-ghost use Rattle.cv_queue.specs.Ports.{place, reader_from, count, IsOutPort, AreWritten, count_of, first_needed_from, new_out, out_at, space, token_at, token_for, after_write, acknowledges, after_ack, after_rewind, after_sent, HasUnsent};
+ghost use Rattle.cv_queue.specs.Ports.{place, reader_from, count, IsOutPort, AreWritten, count_of, first_needed_from, new_out, out_at, space, token_at, token_for, after_write, acknowledges, after_ack, after_rewind, after_sent, HasUnsent, IsThere};
 
 use crate::reader::{Reader, Readers};
 use crate::slots::{drop_front, reserved};
@@ -206,6 +206,7 @@ impl OutPort {
         requires { reader < length self.now.readers }
         ensures value { option_copied result ≡ token_for self.now reader n }
         ensures written { OnSome result ((n < count_of self.now reader) × (n < 2 ^ 62)) }
+        ensures there { IsThere self.now reader n (slice_get self.now.readers reader) → IsSome result }
     {
         let _write = self.write;
         self.token_at(place_among(self.readers.len(), usize::from(reader), n))
