@@ -1,0 +1,9 @@
+//! The one-runtime meaning of a network: a plain machine that fires what it is told.
+#![tactic(auto)]
+
+pub mod printing;
+pub mod solo;
+pub mod stream;
+
+pub use solo::{Solo, SoloFault};
+pub use stream::Stream;

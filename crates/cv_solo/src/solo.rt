@@ -1,0 +1,253 @@
+//! `Solo`: the machine of the one-runtime meaning.
+
+ghost use Rattle.std.specs.Prelude.{◌≡◌, ◌==◌, ◌&&◌, ◌+◌, ◌<◌, ◌^◌, [], ◌++◌, length, vec_len, Some, None, false, map, replicate, drop, take, IfOk, OnOk, Err};
+ghost use Rattle.cv_solo.specs.OneRuntime.{opening, waiting, inputs_from, taken_on, stream_after, streams_after, fire, ready_of, FiresOne};
+ghost use Rattle.cv_solo.specs.Machine.{Machine};
+ghost use Rattle.cv_kinds.specs.KindRow.{has_counts, heads_of, inport_count, start_of};
+
+use crate::stream::Stream;
+use cv_kinds::{ActorSpec, Effect, Join, Network, Outs};
+use cv_token::{Items, OutOfMemory, Token};
+use std::alloc::{AllocError, Global};
+use std::marker::Model;
+
+/// Why a firing was refused.
+#[derive(Debug, Clone, Copy, PartialEq, Eq)]
+pub enum SoloFault {
+    /// Tokens or guard lack, or there is no such actor or action.
+    NotEnabled,
+    OutOfMemory,
+}
+
+impl From<AllocError> for SoloFault {
+    ghost use Rattle.std.specs.Prelude.{◌≡◌};
+    ghost use Rattle.cv_solo.specs.declared.solo.SoloFault.TheVariants.{OutOfMemory};
+
+    ghost from_gives = { λ _ e. e ≡ OutOfMemory };
+
+    fn from(_error: AllocError) -> SoloFault {
+        SoloFault::OutOfMemory
+    }
+}
+
+/// One runtime over a network, with unbounded lists in place of queues.
+#[derive(Drop)]
+pub struct Solo {
+    net: Network,
+    slots: Vec<Items>,
+    streams: Vec<Stream>,
+}
+
+impl Model for Solo {
+    ghost use Rattle.std.specs.Coded.{codes};
+    ghost use Rattle.cv_token.specs.contracts.token.Token as token;
+    ghost use Rattle.std.specs.Prelude.{length};
+    ghost use Rattle.cv_solo.specs.Machine.{Machine, FitsNet};
+
+    ghost Value = { Machine };
+
+    ghost coded = { Prim.hlevel (codes, token.the_row.coded) };
+
+    ghost view = { λ s. record { net = s.net; runtime = record { slots = s.slots.items; streams = s.streams.items } } };
+
+    ghost invariant = { λ s. FitsNet s.net (length s.slots.items) (length s.streams.items) };
+}
+
+impl Solo {
+    /// The machine of a network before its first firing.
+    pub fn new(alloc: Global, net: &Network) -> Result<Solo, OutOfMemory>
+        ensures { IfOk result (λ s. s ≡ record { net = net.now; runtime = opening net.now }) }
+    {
+        let slots = starting_slots(alloc, net.actors())?;
+        let streams = empty_streams(alloc, net.connections().len())?;
+        Ok(Solo { net: net.copy(alloc)?, slots, streams })
+    }
+
+    /// Fires an action of an actor. Neither space nor priority nor time is looked at. After want of memory the
+    /// machine is of no more use.
+    pub fn fire(&mut self, alloc: Global, actor: u16, action: u8) -> Result<(), SoloFault>
+        ensures net { self.new.net ≡ self.old.net }
+        ensures fired { OnOk result (fire self.old.net self.old.runtime actor action ≡ Some self.new.runtime) }
+        ensures not_enabled { result ≡ Err SoloFault.NotEnabled → fire self.old.net self.old.runtime actor action ≡ None }
+    {
+        let Some(spec) = self.net.actors().get(actor as usize) else { return Err(SoloFault::NotEnabled) };
+        fire_one(alloc, spec, self.net.connections(), &mut self.slots[actor as usize], &mut self.streams, actor, action)
+    }
+}
+
+impl Solo {
+    /// The network.
+    pub fn network(&self) -> &Network
+        ensures { result.now ≡ self.now.net }
+    {
+        &self.net
+    }
+
+    /// What went over each connection, by its place.
+    pub fn streams(&self) -> &[Stream]
+        ensures { result.now ≡ self.now.runtime.streams }
+    {
+        self.streams.as_slice()
+    }
+}
+
+/// Fires an action of an actor with these slots.
+fn fire_one(alloc: Global, spec: &ActorSpec, joins: &[Join], slots: &mut Items, streams: &mut Vec<Stream>, actor: u16, action: u8) -> Result<(), SoloFault>
+    requires { length joins.now ≡ vec_len streams.old }
+    ensures len { vec_len streams.new ≡ vec_len streams.old }
+    ensures fired { OnOk result (FiresOne spec.now joins.now actor action slots.old streams.old.items slots.new streams.new.items) }
+    ensures not_enabled { result ≡ Err SoloFault.NotEnabled → ready_of spec.now joins.now actor action slots.old streams.old.items ≡ false }
+{
+    if !is_ready(spec, joins, streams.as_slice(), slots, actor, action) {
+        return Err(SoloFault::NotEnabled);
+    }
+    let heads = copied_heads(alloc, spec, joins, streams.as_slice(), actor, action)?;
+    let Effect { state, out } = spec.kind.effect(alloc, &spec.args, slots, action, &heads)?;
+    advance_all(alloc, spec, actor, action, &out, joins, streams)?;
+    *slots = state;
+    Ok(())
+}
+
+/// Whether the action is ready on the slots and on what waits at the inports.
+fn is_ready(spec: &ActorSpec, joins: &[Join], streams: &[Stream], slots: &Items, actor: u16, action: u8) -> bool
+    ensures { result ≡ ready_of spec.now joins.now actor action slots.now streams.now }
+{
+    action < spec.kind.actions() && has_counts(spec, joins, streams, actor, action) && spec.kind.guard(&spec.args, slots, action)
+}
+
+/// What a firing writes to each connection and takes from it.
+fn advance_all(alloc: Global, spec: &ActorSpec, actor: u16, action: u8, out: &Outs, joins: &[Join], streams: &mut Vec<Stream>) -> Result<(), OutOfMemory>
+    requires { length joins.now ≡ vec_len streams.old }
+    ensures len { vec_len streams.new ≡ vec_len streams.old }
+    ensures after { OnOk result (streams.new.items ≡ streams_after spec.now actor action out.now joins.now streams.old.items) }
+{
+    for place in 0..joins.len() {
+        advance(alloc, spec, actor, action, out, &joins[place], &mut streams[place])?;
+    }
+    Ok(())
+}
+
+/// What a firing writes to a connection and takes from it.
+fn advance(alloc: Global, spec: &ActorSpec, actor: u16, action: u8, out: &Outs, join: &Join, stream: &mut Stream) -> Result<(), OutOfMemory>
+    ensures { OnOk result (stream.new ≡ stream_after spec.now actor action out.now join.now stream.old) }
+{
+    let taken = taken_from(spec, actor, action, join, stream);
+    if join.from == actor {
+        if let Some(Some(token)) = out.get(join.out as usize) {
+            stream.wrote.push(token.copy(alloc)?)?;
+        }
+    }
+    stream.took += taken;
+    Ok(())
+}
+
+/// How many tokens a firing takes from a connection.
+fn taken_from(spec: &ActorSpec, actor: u16, action: u8, join: &Join, stream: &Stream) -> u64
+    ensures taken { result ≡ taken_on spec.now actor action join.now stream.now }
+    ensures fits { stream.now.took + result < 2 ^ 64 }
+{
+    let took = stream.took;
+    if join.to != actor {
+        return 0;
+    }
+    let waits = (stream.wrote.len() as u64).saturating_sub(took);
+    u64::from(spec.kind.needs(&spec.args, action, join.inp)).min(waits)
+}
+
+/// The slots of each actor at the start.
+fn starting_slots(alloc: Global, actors: &[ActorSpec]) -> Result<Vec<Items>, OutOfMemory>
+    ensures { IfOk result (λ slots. slots.items ≡ map (λ a. start_of a.kind a.args) actors.now) }
+{
+    let mut slots = Vec::with_capacity(alloc, actors.len())?;
+    for actor in actors {
+        slots.push(actor.kind.start(alloc, &actor.args)?)?;
+    }
+    Ok(slots)
+}
+
+/// So many streams with nothing written.
+fn empty_streams(alloc: Global, count: usize) -> Result<Vec<Stream>, OutOfMemory>
+    ensures { IfOk result (λ streams. streams.items ≡ replicate count (record { wrote = []; took = 0 })) }
+{
+    let mut streams = Vec::with_capacity(alloc, count)?;
+    for _ in 0..count {
+        streams.push(Stream { wrote: Items::new(alloc), took: 0 })?;
+    }
+    Ok(streams)
+}
+
+/// The tokens that wait at an inport.
+#[tactic(auto, using(crate::proofs::Inputs::waiting_past))]
+fn waiting<'a>(joins: &[Join], streams: &'a [Stream], actor: u16, port: u8) -> &'a [Token]
+    ensures { result.now ≡ waiting joins.now streams.now actor port }
+{
+    for (place, join) in joins.iter().enumerate() {
+        if place >= streams.len() {
+            return &[];
+        }
+        let stream = &streams[place];
+        if feeds(join, actor, port) {
+            return left_of(stream);
+        }
+    }
+    &[]
+}
+
+/// Whether a connection feeds the inport.
+pub(crate) fn feeds(join: &Join, actor: u16, port: u8) -> bool
+    ensures { result ≡ ((join.now.to == actor) && (join.now.inp == port)) }
+{
+    join.to == actor && join.inp == port
+}
+
+/// The tokens of a stream that were not taken.
+fn left_of(stream: &Stream) -> &[Token]
+    ensures { result.now ≡ drop stream.now.took stream.now.wrote }
+{
+    let wrote = stream.wrote.as_slice();
+    if stream.took < wrote.len() as u64 { wrote.split_at(stream.took as usize).1 } else { &[] }
+}
+
+/// Whether each needed inport has its count.
+#[tactic(auto, using(crate::proofs::Inputs::inputs_next))]
+fn has_counts(spec: &ActorSpec, joins: &[Join], streams: &[Stream], actor: u16, action: u8) -> bool
+    ensures { result ≡ has_counts spec.now.kind spec.now.args action 0 (inputs_from joins.now streams.now actor 0 (inport_count spec.now.kind)) }
+{
+    for port in 0..spec.kind.inports() {
+        let needed = spec.kind.needs(&spec.args, action, port);
+        if waiting(joins, streams, actor, port).len() < needed as usize {
+            return false;
+        }
+    }
+    true
+}
+
+/// Copies of the needed tokens, port by port.
+#[tactic(auto, using(crate::proofs::Inputs::inputs_next))]
+fn copied_heads(alloc: Global, spec: &ActorSpec, joins: &[Join], streams: &[Stream], actor: u16, action: u8) -> Result<Items, OutOfMemory>
+    ensures { IfOk result (λ heads. heads ≡ heads_of spec.now.kind spec.now.args action 0 (inputs_from joins.now streams.now actor 0 (inport_count spec.now.kind))) }
+{
+    let mut heads = Items::new(alloc);
+    for port in 0..spec.kind.inports() {
+        let needed = spec.kind.needs(&spec.args, action, port);
+        copy_first(alloc, waiting(joins, streams, actor, port), needed, &mut heads)?;
+    }
+    Ok(heads)
+}
+
+/// Adds copies of the first `count` tokens, or of all where there are fewer, to the end of `heads`.
+fn copy_first(alloc: Global, tokens: &[Token], count: u16, heads: &mut Items) -> Result<(), OutOfMemory>
+    ensures { OnOk result (heads.new ≡ heads.old ++ take count tokens.now) }
+{
+    for token in first_of(tokens, count as usize) {
+        heads.push(token.copy(alloc)?)?;
+    }
+    Ok(())
+}
+
+/// The first `count` tokens, or all where there are fewer.
+pub(crate) fn first_of(tokens: &[Token], count: usize) -> &[Token]
+    ensures { result.now ≡ take count tokens.now }
+{
+    if count < tokens.len() { tokens.split_at(count).0 } else { tokens }
+}
