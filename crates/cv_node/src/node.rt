@@ -123,6 +123,15 @@ impl Node {
     }
 }
 
+impl Node {
+    /// The journal: the entries in their order.
+    pub fn into_entries(self) -> Vec<Entry>
+        ensures { result.items ≡ self.entries }
+    {
+        self.entries
+    }
+}
+
 /// Makes room for one entry more.
 fn make_room(entries: &mut Vec<Entry>) -> Result<(), OutOfMemory>
     ensures items { entries.new.items ≡ entries.old.items }
