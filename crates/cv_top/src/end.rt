@@ -1,0 +1,88 @@
+//! How a call ends, with its status and its text.
+
+ghost use Rattle.std.specs.Prelude.{◌≡◌};
+ghost use Rattle.cv_top.specs.Ends.{status_of, end_of};
+
+use cv_deploy::Code;
+use cv_node::Record;
+
+/// How a call ends.
+#[derive(Debug, Clone, Copy, PartialEq, Eq)]
+pub enum End {
+    /// As many firings were made as the words allow.
+    Spent,
+    /// Nothing can fire and no token can move.
+    Quiescent,
+    /// The words are not of the form.
+    Usage,
+    /// The script has no meaning; its first fault, with line and column from 1, columns counting bytes.
+    Script { line: u32, col: u32, code: Code },
+    /// The source failed.
+    ReadFault,
+    /// The sink failed; a part of the text, from its front, is on it.
+    WriteFault,
+    /// Memory ran out.
+    OutOfMemory,
+    /// The source gave more bytes than its limit.
+    TooLong,
+}
+
+/// Why nothing was run.
+#[derive(Debug, Clone, Copy, PartialEq, Eq)]
+pub enum Refusal {
+    Usage,
+    Script { line: u32, col: u32, code: Code },
+    ReadFault,
+    OutOfMemory,
+    TooLong,
+}
+
+impl Refusal {
+    /// How the call ends where its sink takes the line.
+    pub fn end(self) -> End
+        ensures { result ≡ end_of self }
+    {
+        match self {
+            Refusal::Usage => End::Usage,
+            Refusal::Script { line, col, code } => End::Script { line, col, code },
+            Refusal::ReadFault => End::ReadFault,
+            Refusal::OutOfMemory => End::OutOfMemory,
+            Refusal::TooLong => End::TooLong,
+        }
+    }
+}
+
+/// The lengths of the nodes' journals at one moment.
+#[derive(Drop)]
+pub struct Cut {
+    /// Which item of the words the moment belongs to.
+    pub item: u64,
+    /// The length of each node's journal, by number.
+    pub ends: Vec<u32>,
+}
+
+/// What a call leaves: its status, how it ended, the record of its run, and the cuts of its items.
+#[derive(Drop)]
+pub struct Outcome {
+    pub status: u8,
+    pub end: End,
+    pub merged: Record,
+    pub cuts: Vec<Cut>,
+}
+
+impl End {
+    /// The status with which the program ends.
+    pub fn status(self) -> u8
+        ensures { result ≡ status_of self }
+    {
+        match self {
+            End::Spent | End::Quiescent => 0,
+            End::Usage => 2,
+            End::Script { line: _, col: _, code: _ } => 3,
+            End::ReadFault => 4,
+            End::WriteFault => 5,
+            End::OutOfMemory => 6,
+            End::TooLong => 8,
+        }
+    }
+}

@@ -1,0 +1,72 @@
+//! `calvin`: the call that the program makes.
+
+ghost use Rattle.std.specs.Prelude.{◌≡◌, ◌⊎◌, ◌↔◌, map, string_bytes, None, Err, IfOk, MatchResult};
+ghost use Rattle.cv_io.specs.Faults.{Rose};
+ghost use Rattle.cv_top.specs.Words.{run_words};
+ghost use Rattle.cv_top.specs.Causes.{TakenFrom, WrittenTo};
+ghost use Rattle.cv_top.specs.Ends.{status_of, end_of, IsRunEnd};
+
+use crate::end::{End, Outcome, Refusal};
+use crate::running::{Run, run_network};
+use crate::told::{write_line, write_refusal};
+use crate::words::read_words;
+use cv_deploy::{Fault, NoNetwork, compile};
+use cv_io::{Gate, ReadAll, Sink, Source, read_all};
+use cv_node::{NodeSpecs, Record, Steps};
+use std::alloc::Global;
+use std::thread::Threads;
+
+/// A script has at most so many bytes.
+pub const SCRIPT_LIMIT: usize = 1 << 20;
+
+/// Does what the words ask for: reads a script from the source, runs it, and writes its text to the sink. The order is
+/// words, reading, length, script, run, writing. The runtime and the gate are for runs of several nodes, which are not
+/// built yet.
+pub fn calvin<R: Threads + Sync, S: Source, K: Sink, G: Gate>(_rt: &R, alloc: Global, words: &[String], source: &mut S, sink: &mut K, _gate: &G) -> Outcome
+    // Usage comes exactly where the words are not of the form; only a sink that fails replaces it.
+    ensures usage { result.end ≡ End.Usage → run_words (map string_bytes words.now) ≡ None }
+    ensures usage_always { run_words (map string_bytes words.now) ≡ None → (result.end ≡ End.Usage) ⊎ (result.end ≡ End.WriteFault) }
+
+    // TooLong comes exactly where the source gave one byte more than the limit.
+    ensures taken { TakenFrom 1048576 (S.left source.old) (S.left source.new) result.end }
+
+    ensures read_fault { result.end ≡ End.ReadFault → Rose (S.faults source.old) (S.faults source.new) }
+    ensures write_fault { result.end ≡ End.WriteFault → Rose (K.faults sink.old) (K.faults sink.new) }
+    ensures written { WrittenTo (K.written sink.old) (K.written sink.new) result.end }
+    ensures status { result.status ≡ status_of result.end }
+{
+    match decided(alloc, words, source) {
+        Ok(done) => {
+            let Run { end, record, text } = done;
+            let end = write_line(sink, text.as_str(), end);
+            Outcome { status: end.status(), end, merged: record, cuts: Vec::new(alloc) }
+        }
+        Err(refusal) => {
+            let end = write_refusal(alloc, sink, refusal);
+            let merged = Record { specs: NodeSpecs::new(alloc), entries: Steps::new(alloc) };
+            Outcome { status: end.status(), end, merged, cuts: Vec::new(alloc) }
+        }
+    }
+}
+
+/// Reads the words and the source, and runs the script.
+fn decided<S: Source>(alloc: Global, words: &[String], source: &mut S) -> Result<Run, Refusal>
+    ensures usage { (result ≡ Err Refusal.Usage) ↔ (run_words (map string_bytes words.now) ≡ None) }
+    ensures taken { MatchResult result (λ run. TakenFrom 1048576 (S.left source.old) (S.left source.new) run.end) (λ r. TakenFrom 1048576 (S.left source.old) (S.left source.new) (end_of r)) }
+    ensures read_fault { result ≡ Err Refusal.ReadFault → Rose (S.faults source.old) (S.faults source.new) }
+    ensures ran { IfOk result (λ run. IsRunEnd run.end) }
+{
+    let Some(most) = read_words(words) else { return Err(Refusal::Usage) };
+    let bytes = match read_all(alloc, source, SCRIPT_LIMIT) {
+        Ok(bytes) => bytes,
+        Err(ReadAll::ReadFault) => return Err(Refusal::ReadFault),
+        Err(ReadAll::TooLong) => return Err(Refusal::TooLong),
+        Err(ReadAll::OutOfMemory) => return Err(Refusal::OutOfMemory),
+    };
+    let net = match compile(alloc, bytes.as_slice()) {
+        Ok(net) => net,
+        Err(NoNetwork::Script(Fault { line, col, code })) => return Err(Refusal::Script { line, col, code }),
+        Err(NoNetwork::OutOfMemory) => return Err(Refusal::OutOfMemory),
+    };
+    run_network(alloc, net, most).map_err(|_| Refusal::OutOfMemory)
+}

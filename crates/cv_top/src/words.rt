@@ -1,0 +1,73 @@
+//! The words of the command line, read by hand.
+
+ghost use Rattle.std.specs.Prelude.{◌≡◌, ◌<◌, ◌≤◌, ◌^◌, length, map, string_bytes, true};
+ghost use Rattle.cv_top.specs.Words.{run_words, firings_word, is_number, is_digit, number_of};
+ghost use Rattle.std.specs.List.{list_all};
+
+/// How many firings a run makes at most where the words do not say.
+pub const DEFAULT_FIRINGS: u32 = 1000;
+
+/// The most firings that words may ask for.
+pub const MOST_FIRINGS: u32 = 100_000;
+
+/// How many firings the words of `run` ask for; None exactly where they are of another form.
+pub fn read_words(words: &[String]) -> Option<u32>
+    ensures { result ≡ run_words (map string_bytes words.now) }
+{
+    match words {
+        [command] => if command.as_str() == "run" { Some(DEFAULT_FIRINGS) } else { None },
+        [command, option, value] => {
+            if command.as_str() == "run" && option.as_str() == "--firings" {
+                read_firings(value.as_bytes())
+            } else {
+                None
+            }
+        }
+        _ => None,
+    }
+}
+
+/// The number of firings that a word asks for, where it is a number of 1 to 9 digits within the limit.
+fn read_firings(word: &[u8]) -> Option<u32>
+    ensures { result ≡ firings_word word.now }
+{
+    if !is_number(word) {
+        return None;
+    }
+    let number = number_of(word);
+    if number <= MOST_FIRINGS { Some(number) } else { None }
+}
+
+/// Whether a word is 1 to 9 digits.
+fn is_number(word: &[u8]) -> bool
+    ensures { result ≡ is_number word.now }
+{
+    !word.is_empty() && word.len() <= 9 && are_digits(word)
+}
+
+/// Whether each byte is a digit.
+fn are_digits(word: &[u8]) -> bool
+    ensures { result ≡ list_all is_digit word.now }
+{
+    word.iter().all(|byte| is_digit(*byte))
+}
+
+/// Whether a byte is a digit.
+fn is_digit(byte: u8) -> bool
+    ensures { result ≡ is_digit byte }
+{
+    b'0' <= byte && byte <= b'9'
+}
+
+/// The number that digits write.
+fn number_of(digits: &[u8]) -> u32
+    requires few { length digits.now ≤ 9 }
+    requires digits { list_all is_digit digits.now ≡ true }
+    ensures { result ≡ number_of digits.now }
+{
+    let mut number = 0;
+    for digit in digits {
+        number = number * 10 + u32::from(*digit - b'0');
+    }
+    number
+}
