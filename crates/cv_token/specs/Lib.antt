@@ -1,5 +1,6 @@
 pub mod Bounds
 pub mod Forms
+pub mod Naming
 pub mod Reading
 pub mod Rising
 pub mod Shape
