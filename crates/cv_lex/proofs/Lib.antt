@@ -3,3 +3,11 @@ pub mod Skips
 pub mod Edges
 pub mod Found
 pub mod Sayings
+pub mod Runs
+pub mod Places
+pub mod Insides
+pub mod Sizes
+pub mod Right
+pub mod Covers
+pub mod Agrees
+pub mod Spelled

@@ -4,6 +4,8 @@ pub mod Fronts
 pub mod Lexemes
 pub mod Numbers
 pub mod Pieces
+pub mod Shapes
 pub mod Spans
+pub mod Spelling
 pub mod Texts
 pub mod Words

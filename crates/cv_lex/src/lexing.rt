@@ -1,7 +1,9 @@
 //! A text cut into its lexemes.
 
-ghost use Rattle.std.specs.Prelude.{◌≡◌, ◌+◌, ◌<◌, ◌≤◌, ◌^◌, length, drop, IfOk, IfErr};
+ghost use Rattle.std.specs.Prelude.{◌≡◌, ◌+◌, ◌<◌, ◌≤◌, ◌^◌, length, drop, IfOk, IfErr, List, Ok, ℕ};
 ghost use Rattle.cv_lex.specs.Lexemes.{lexemes, with_front, Fails, Gives};
+ghost use Rattle.cv_lex.specs.Spelling.{Spells};
+ghost use Rattle.cv_lex.specs.declared.lexeme.Lexeme.{Lexeme};
 
 use crate::fronts::{Front, at_front};
 use crate::lexeme::{LexFault, Lexeme, Sort};
@@ -27,8 +29,8 @@ fn take_front(found: &mut Vec<Lexeme>, rest: &[u8], at: u32) -> Result<usize, Le
     }
 }
 
-/// The lexemes of a script, in order.
-pub fn lex(alloc: Global, source: &str) -> Result<Vec<Lexeme>, LexFault>
+/// The lexemes of a script, in order, or its first fault from the left.
+fn lex_all(alloc: Global, source: &str) -> Result<Vec<Lexeme>, LexFault>
     requires { length source.now ≤ 2 ^ 31 }
     ensures { Gives result (lexemes 0 0 source.now) }
 {
@@ -42,3 +44,25 @@ pub fn lex(alloc: Global, source: &str) -> Result<Vec<Lexeme>, LexFault>
     }
     Ok(found)
 }
+
+/// The lexemes of a script, in order. White space and comments stand between them, and of what may
+/// stand at a place the longest is taken.
+///
+/// # Errors
+///
+/// The first fault from the left, with its place in bytes; or `OutOfMemory`.
+pub fn lex(alloc: Global, source: &str) -> Result<Vec<Lexeme>, LexFault>
+    requires { length source.now ≤ 2 ^ 31 }
+    ensures exact { Gives result (lexemes 0 0 source.now) }
+
+    // Unless memory runs out, the answer is Ok exactly where the source spells lexemes.
+    ensures found { IfOk result (λ found. Spells 0 source.now found.items) }
+    ensures only { (spelled : List Lexeme) → Spells 0 source.now spelled → Gives result (Ok spelled) }
+{
+    lex_all(alloc, source)
+}
+
+/// No bytes spell two lists of lexemes.
+pub fn one_spelling()
+    ensures { (bytes : List ℕ) (first second : List Lexeme) → Spells 0 bytes first → Spells 0 bytes second → first ≡ second }
+{}
