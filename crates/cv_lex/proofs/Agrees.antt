@@ -32,7 +32,7 @@ Agrees bytes (fronts.Flaw fault) None = Unit {0}
 Agrees bytes (fronts.Flaw fault) (Some found) = IsUnfit bytes found.0 found.1
 
 -- two choices by one test
-both_if : {A B : Type 0} (P : A → B → Type 0) (b : Bool) (x y : A) (u v : B) → (b ≡ true → P x u) → (b ≡ false → P y v) → P (cond b x y) (cond b u v)
+pub both_if : {A B : Type 0} (P : A → B → Type 0) (b : Bool) (x y : A) (u v : B) → (b ≡ true → P x u) → (b ≡ false → P y v) → P (cond b x y) (cond b u v)
 both_if P true x y u v h k = h refl
 both_if P false x y u v h k = k refl
 
@@ -73,7 +73,7 @@ slash_agrees at b rest =
     both_if (Agrees (b ∷ rest)) (eqb (get_or rest 0 0) 42) _ _ _ _ (λ _. comment_agrees at (b ∷ rest) 3 4 _ refl) (λ _. tt))
 
 -- what stands between the quotes
-between : (b : ℕ) (rest : List ℕ) (place : ℕ) → place < length rest → take (length (take (suc (place + 1)) (b ∷ rest)) - 2) (take (place + 1) rest) ≡ take place rest
+pub between : (b : ℕ) (rest : List ℕ) (place : ℕ) → place < length rest → take (length (take (suc (place + 1)) (b ∷ rest)) - 2) (take (place + 1) rest) ≡ take place rest
 between b rest place h =
     let size : length (take (place + 1) rest) ≡ place + 1 = length-take-le (place + 1) rest (omega arith) in
     ap (λ k. take k (take (place + 1) rest)) (omega (arith, size)) ∙ take-take place (place + 1) rest (omega arith)
@@ -106,3 +106,17 @@ front_agrees at b rest =
     both_if (Agrees (b ∷ rest)) (eqb b 34) _ _ _ _ (λ _. quote_agrees at b rest) (λ _.
     both_if (Agrees (b ∷ rest)) (eqb b 47) _ _ _ _ (λ _. slash_agrees at b rest) (λ _.
     both_if (Agrees (b ∷ rest)) (is_mark_byte b) _ _ _ _ (λ _. (refl, tt)) (λ _. tt)))))))
+
+-- a lexeme at the front keeps the limits of its sort
+abbrev pub KeepsLimits : List ℕ → Front → Type 0
+KeepsLimits bytes (fronts.Blank more) = Unit {0}
+KeepsLimits bytes (fronts.Lexeme sort more) = Fits sort (take (suc more) bytes)
+KeepsLimits bytes (fronts.Flaw fault) = Unit {0}
+
+limits : (bytes : List ℕ) (front : Front) (size : Size) → Agrees bytes front size → KeepsLimits bytes front
+limits bytes (fronts.Blank more) size a = tt
+limits bytes (fronts.Lexeme sort more) size a = a.1
+limits bytes (fronts.Flaw fault) size a = tt
+
+pub front_limits : (at b : ℕ) (rest : List ℕ) → KeepsLimits (b ∷ rest) (front_of at (b ∷ rest))
+front_limits at b rest = limits (b ∷ rest) (front_of at (b ∷ rest)) (size_of b rest) (front_agrees at b rest)

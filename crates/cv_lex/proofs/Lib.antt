@@ -11,3 +11,6 @@ pub mod Right
 pub mod Covers
 pub mod Agrees
 pub mod Spelled
+pub mod Stood
+pub mod Causes
+pub mod Faulty

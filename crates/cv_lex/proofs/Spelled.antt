@@ -1,6 +1,8 @@
 -- The lexemes of a text are those that it spells.
 use Rattle.std.proofs.Common.{◌≡◌, ℕ, zero, suc, ◌+◌, ◌≤◌, Option, Some, None, Result, Ok, Err, List, [], ◌∷◌, ◌++◌, length, take, drop, refl, sym, ap, ◌∙◌, subst, inl, inr, arith}
-use Rattle.std.specs.Prelude.{Vec, IfOk}
+use Rattle.std.specs.Prelude.{Vec, IfOk, IfErr}
+use Rattle.cv_lex.specs.Faults.{IsCaused}
+use Rattle.cv_lex.proofs.Faulty.{fails_caused}
 use Rattle.std.proofs.lemmas.List.{length-take-le, take-append-drop}
 use Rattle.cv_lex.specs.declared.lexeme.Sort.{Sort}
 use Rattle.cv_lex.specs.declared.lexeme.Lexeme.{Lexeme}
@@ -15,28 +17,8 @@ use Rattle.cv_lex.proofs.Agrees.{Agrees, front_agrees}
 use Rattle.cv_lex.proofs.Covers.{Covers, front_size, drop-front, size_covers}
 use Rattle.cv_lex.proofs.Right.{IsRight, take-front, size_right}
 use Rattle.cv_lex.proofs.Sizes.{Size, size_of}
+use Rattle.cv_lex.proofs.Stood.{stands}
 use Rattle.cv_lex.proofs.Skips.{lexemes-blank, lexemes-lexeme}
-
--- nothing that stands there is longer than what is found
-no_longer : (other thing : Option Sort) (m n : ℕ) → Covers other m (Some (thing, n)) → m ≤ n
-no_longer other thing m n (inl h) = omega arith
-no_longer other thing m n (inr h) = omega (arith, h.0)
-
--- what is found at the front stands there
-stands : (b : ℕ) (rest : List ℕ) (thing : Option Sort) (n : ℕ) → size_of b rest ≡ Some (thing, n) → Stands thing (take n (b ∷ rest)) (drop n (b ∷ rest)) × (n ≤ length (b ∷ rest))
-stands b rest thing n e =
-    let right = subst (IsRight (b ∷ rest)) e (size_right b rest) in
-    let count : length (take n (b ∷ rest)) ≡ n = length-take-le n (b ∷ rest) right.1 in (
-      record {
-        is = right.2;
-        longest = λ other longer tail split here.
-            let P : List ℕ → Type 0 = λ bytes. Covers other (length longer) (front_size bytes) in
-            let whole : longer ++ tail ≡ b ∷ rest = sym split ∙ take-append-drop n (b ∷ rest) in
-            let covers = subst (Covers other (length longer)) e (subst P whole (size_covers other longer tail here)) in
-            omega (arith, count, no_longer other thing (length longer) n covers);
-      },
-      right.1,
-    )
 
 -- a lexeme and those behind it
 spelled_lexeme : (at b : ℕ) (rest : List ℕ) (sort : Sort) (more : ℕ) (r : Result (List Lexeme) LexFault) (ls : List Lexeme) → Stands (Some sort) (take (suc more) (b ∷ rest)) (drop more rest) → Fits sort (take (suc more) (b ∷ rest)) → length (take (suc more) (b ∷ rest)) ≡ suc more → ((ms : List Lexeme) → r ≡ Ok ms → Spells (at + 1 + more) (drop more rest) ms) → with_front (record { sort = sort; at = at; len = more + 1 } ∷ []) r ≡ Ok ls → Spells at (b ∷ rest) ls
@@ -175,3 +157,8 @@ one_spelling bytes ls ms h k =
 pub gives_spelled : {A : Type 0} (answer : Result (Vec Lexeme A) LexFault) (bytes : List ℕ) → Gives answer (lexemes 0 0 bytes) → IfOk answer (λ found. Spells 0 bytes found.items)
 gives_spelled (Ok found) bytes h = lexemes_spelled bytes found.items h
 gives_spelled (Err fault) bytes h = tt
+
+-- an answer with a fault has its cause
+pub gives_caused : {A : Type 0} (answer : Result (Vec Lexeme A) LexFault) (bytes : List ℕ) → Gives answer (lexemes 0 0 bytes) → IfErr answer (IsCaused bytes)
+gives_caused (Ok found) bytes h = tt
+gives_caused (Err fault) bytes h = fails_caused bytes fault h

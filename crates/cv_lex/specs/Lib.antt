@@ -1,5 +1,6 @@
 pub mod Bytes
 pub mod Cuts
+pub mod Faults
 pub mod Fronts
 pub mod Lexemes
 pub mod Numbers

@@ -1,6 +1,6 @@
 use Rattle.std.proofs.Common.{subst}
 use Rattle.cv_lex.specs.Lexemes.{Gives}
-use Rattle.cv_lex.proofs.Spelled.{gives_spelled, spelled_lexemes}
+use Rattle.cv_lex.proofs.Spelled.{gives_caused, gives_spelled, spelled_lexemes}
 use Rattle.cv_lex.proofs.lexing.lex.Goals as goal
 
 pub returns-clause-found : goal.returns-clause-found
@@ -8,3 +8,6 @@ returns-clause-found c = gives_spelled c.lex_all.result c.args.source.now c.lex_
 
 pub returns-clause-only : goal.returns-clause-only
 returns-clause-only c = λ ls spelled. subst (Gives c.lex_all.result) (spelled_lexemes 0 c.args.source.now ls spelled) c.lex_all.ensures
+
+pub returns-clause-cause : goal.returns-clause-cause
+returns-clause-cause c = gives_caused c.lex_all.result c.args.source.now c.lex_all.ensures
