@@ -28,15 +28,15 @@ covers_same : (thing : Option Sort) (m n : ℕ) → m ≡ n → Covers thing m (
 covers_same thing m n e = inr (e, refl)
 
 -- the tests of a first byte
-at_true : {A : Type 0} (P : A → Type 0) (b : Bool) (x y : A) → b ≡ true → P x → P (cond b x y)
+pub at_true : {A : Type 0} (P : A → Type 0) (b : Bool) (x y : A) → b ≡ true → P x → P (cond b x y)
 at_true P true x y e h = h
 at_true P false x y e h = cc
 
-at_false : {A : Type 0} (P : A → Type 0) (b : Bool) (x y : A) → b ≡ false → P y → P (cond b x y)
+pub at_false : {A : Type 0} (P : A → Type 0) (b : Bool) (x y : A) → b ≡ false → P y → P (cond b x y)
 at_false P true x y e h = cc
 at_false P false x y e h = h
 
-name-blank : (b : ℕ) → is_name_start b ≡ true → is_blank_byte b ≡ false
+pub name-blank : (b : ℕ) → is_name_start b ≡ true → is_blank_byte b ≡ false
 name-blank b h = grind (arith, nat_tests)
 
 digit-blank : (b : ℕ) → is_digit b ≡ true → is_blank_byte b ≡ false
@@ -45,24 +45,24 @@ digit-blank b h = grind (arith, nat_tests)
 digit-name : (b : ℕ) → is_digit b ≡ true → is_name_start b ≡ false
 digit-name b h = grind (arith, nat_tests)
 
-mark-blank : (b : ℕ) → is_mark_byte b ≡ true → is_blank_byte b ≡ false
+pub mark-blank : (b : ℕ) → is_mark_byte b ≡ true → is_blank_byte b ≡ false
 mark-blank b h = grind (arith, nat_tests)
 
-mark-name : (b : ℕ) → is_mark_byte b ≡ true → is_name_start b ≡ false
+pub mark-name : (b : ℕ) → is_mark_byte b ≡ true → is_name_start b ≡ false
 mark-name b h = grind (arith, nat_tests)
 
-mark-digit : (b : ℕ) → is_mark_byte b ≡ true → is_digit b ≡ false
+pub mark-digit : (b : ℕ) → is_mark_byte b ≡ true → is_digit b ≡ false
 mark-digit b h = grind (arith, nat_tests)
 
-mark-others : (b : ℕ) → is_mark_byte b ≡ true → (eqb b 45 ≡ false) × (eqb b 34 ≡ false) × (eqb b 47 ≡ false)
+pub mark-others : (b : ℕ) → is_mark_byte b ≡ true → (eqb b 45 ≡ false) × (eqb b 34 ≡ false) × (eqb b 47 ≡ false)
 mark-others b h = (grind (arith, nat_tests), grind (arith, nat_tests), grind (arith, nat_tests))
 
 -- a digit begins a number
-digit_size : (P : Size → Type 0) (b : ℕ) (rest : List ℕ) → is_digit b ≡ true → P (number_size rest) → P (size_of b rest)
+pub digit_size : (P : Size → Type 0) (b : ℕ) (rest : List ℕ) → is_digit b ≡ true → P (number_size rest) → P (size_of b rest)
 digit_size P b rest d h = at_false P (is_blank_byte b) _ _ (digit-blank b d) (at_false P (is_name_start b) _ _ (digit-name b d) (at_true P (is_digit b) _ _ d h))
 
 -- so does a `-` before a digit
-minus_digit_size : (P : Size → Type 0) (b d : ℕ) (rest : List ℕ) → b ≡ 45 → is_digit d ≡ true → P (number_size (d ∷ rest)) → P (size_of b (d ∷ rest))
+pub minus_digit_size : (P : Size → Type 0) (b d : ℕ) (rest : List ℕ) → b ≡ 45 → is_digit d ≡ true → P (number_size (d ∷ rest)) → P (size_of b (d ∷ rest))
 minus_digit_size P b d rest e h p =
     let Q : ℕ → Type 0 = λ x. P (size_of x (d ∷ rest)) in
     subst Q (sym e) (at_true P (is_digit d) _ _ h p)
@@ -100,7 +100,7 @@ pub drop-front : (xs ys : List ℕ) → drop (length xs) (xs ++ ys) ≡ ys
 drop-front [] ys = refl
 drop-front (x ∷ xs) ys = drop-front xs ys
 
-number_from : (rest : List ℕ) (more fraction : ℕ) → prefix_len is_digit rest ≡ more → fraction_len (drop more rest) ≡ fraction → number_size rest ≡ cond (eqb fraction 0) (Some (Some sorts.Int, suc more)) (Some (Some sorts.Fraction, suc (more + fraction)))
+pub number_from : (rest : List ℕ) (more fraction : ℕ) → prefix_len is_digit rest ≡ more → fraction_len (drop more rest) ≡ fraction → number_size rest ≡ cond (eqb fraction 0) (Some (Some sorts.Int, suc more)) (Some (Some sorts.Fraction, suc (more + fraction)))
 number_from rest more fraction e f =
     let P : ℕ → Type 0 = λ m. number_size rest ≡ cond (eqb (fraction_len (drop m rest)) 0) (Some (Some sorts.Int, suc m)) (Some (Some sorts.Fraction, suc (m + fraction_len (drop m rest)))) in
     subst P e refl ∙ ap (λ (n : ℕ). cond (eqb n 0) (Some (Some sorts.Int, suc more)) (Some (Some sorts.Fraction, suc (more + n)))) f

@@ -14,3 +14,4 @@ pub mod Spelled
 pub mod Stood
 pub mod Causes
 pub mod Faulty
+pub mod Spaced

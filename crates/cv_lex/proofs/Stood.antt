@@ -8,7 +8,7 @@ use Rattle.cv_lex.proofs.Right.{IsRight, size_right}
 use Rattle.cv_lex.proofs.Sizes.{size_of}
 
 -- nothing that stands there is longer than what is found
-no_longer : (other thing : Option Sort) (m n : ℕ) → Covers other m (Some (thing, n)) → m ≤ n
+pub no_longer : (other thing : Option Sort) (m n : ℕ) → Covers other m (Some (thing, n)) → m ≤ n
 no_longer other thing m n (inl h) = omega arith
 no_longer other thing m n (inr h) = omega (arith, h.0)
 

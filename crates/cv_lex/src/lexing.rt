@@ -1,10 +1,12 @@
 //! A text cut into its lexemes.
 
-ghost use Rattle.std.specs.Prelude.{◌≡◌, ◌+◌, ◌<◌, ◌≤◌, ◌^◌, length, drop, IfOk, IfErr, List, Ok, ℕ};
+ghost use Rattle.std.specs.Prelude.{◌≡◌, ◌+◌, ◌<◌, ◌≤◌, ◌^◌, length, drop, IfOk, IfErr, ◌↔◌, List, [], ◌∷◌, Ok, Some, None, ℕ};
 ghost use Rattle.cv_lex.specs.Faults.{IsCaused};
 ghost use Rattle.cv_lex.specs.Lexemes.{lexemes, with_front, Fails, Gives};
+ghost use Rattle.cv_lex.specs.Shapes.{IsAt, Stands};
 ghost use Rattle.cv_lex.specs.Spelling.{Spells};
 ghost use Rattle.cv_lex.specs.declared.lexeme.Lexeme.{Lexeme};
+ghost use Rattle.cv_lex.specs.declared.lexeme.Sort.{Sort};
 
 use crate::fronts::{Front, at_front};
 use crate::lexeme::{LexFault, Lexeme, Sort};
@@ -66,7 +68,15 @@ pub fn lex(alloc: Global, source: &str) -> Result<Vec<Lexeme>, LexFault>
     lex_all(alloc, source)
 }
 
-/// No bytes spell two lists of lexemes.
+/// No bytes spell two lists of lexemes, and the lexemes of bytes are those that they spell.
 pub fn one_spelling()
-    ensures { (bytes : List ℕ) (first second : List Lexeme) → Spells 0 bytes first → Spells 0 bytes second → first ≡ second }
+    ensures one { (bytes : List ℕ) (first second : List Lexeme) → Spells 0 bytes first → Spells 0 bytes second → first ≡ second }
+    ensures same { (bytes : List ℕ) (spelled : List Lexeme) → (lexemes 0 0 bytes ≡ Ok spelled) ↔ Spells 0 bytes spelled }
+{}
+
+/// A lexeme that a space follows is the longest that stands there, and so is the space: what a
+/// printer needs that puts a space behind each lexeme.
+pub fn before_a_space()
+    ensures lexeme { (sort : Sort) (front rest : List ℕ) → IsAt (Some sort) front (32 ∷ rest) → Stands (Some sort) front (32 ∷ rest) }
+    ensures space { (rest : List ℕ) → Stands None (32 ∷ []) rest }
 {}
