@@ -15,3 +15,4 @@ pub mod Stood
 pub mod Causes
 pub mod Faulty
 pub mod Spaced
+pub mod Rising

@@ -2,7 +2,7 @@
 
 ghost use Rattle.std.specs.Prelude.{◌≡◌, ◌+◌, ◌<◌, ◌≤◌, ◌^◌, length, drop, IfOk, IfErr, ◌↔◌, List, [], ◌∷◌, Ok, Some, None, ℕ};
 ghost use Rattle.cv_lex.specs.Faults.{IsCaused};
-ghost use Rattle.cv_lex.specs.Lexemes.{lexemes, with_front, Fails, Gives};
+ghost use Rattle.cv_lex.specs.Lexemes.{lexemes, with_front, Fails, Gives, Rise};
 ghost use Rattle.cv_lex.specs.Shapes.{IsAt, Stands};
 ghost use Rattle.cv_lex.specs.Spelling.{Spells};
 ghost use Rattle.cv_lex.specs.declared.lexeme.Lexeme.{Lexeme};
@@ -61,6 +61,9 @@ pub fn lex(alloc: Global, source: &str) -> Result<Vec<Lexeme>, LexFault>
     // Unless memory runs out, the answer is Ok exactly where the source spells lexemes.
     ensures found { IfOk result (λ found. Spells 0 source.now found.items) }
     ensures only { (spelled : List Lexeme) → Spells 0 source.now spelled → Gives result (Ok spelled) }
+
+    // The spans rise, and end within the source.
+    ensures rising { IfOk result (λ found. Rise 0 found.items (length source.now)) }
 
     // Each fault stands where white space, comments and lexemes lead to, and has its cause there.
     ensures cause { IfErr result (IsCaused source.now) }

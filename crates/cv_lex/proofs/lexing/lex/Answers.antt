@@ -1,5 +1,6 @@
 use Rattle.std.proofs.Common.{subst}
 use Rattle.cv_lex.specs.Lexemes.{Gives}
+use Rattle.cv_lex.proofs.Rising.{gives_rising}
 use Rattle.cv_lex.proofs.Spelled.{gives_caused, gives_spelled, spelled_lexemes}
 use Rattle.cv_lex.proofs.lexing.lex.Goals as goal
 
@@ -11,3 +12,6 @@ returns-clause-only c = λ ls spelled. subst (Gives c.lex_all.result) (spelled_l
 
 pub returns-clause-cause : goal.returns-clause-cause
 returns-clause-cause c = gives_caused c.lex_all.result c.args.source.now c.lex_all.ensures
+
+pub returns-clause-rising : goal.returns-clause-rising
+returns-clause-rising c = gives_rising c.lex_all.result c.args.source.now c.lex_all.ensures
