@@ -32,7 +32,7 @@ nothing_stands bytes e = λ thing front tail split h.
     subst (Covers thing (length front)) e (subst P (sym split) (size_covers thing front tail h))
 
 -- a flaw's cause, by what is found
-abbrev Causes : ℕ → List ℕ → Front → Size → Type 0
+abbrev pub Causes : ℕ → List ℕ → Front → Size → Type 0
 Causes at bytes (fronts.Blank more) size = Unit {0}
 Causes at bytes (fronts.Lexeme sort more) size = Unit {0}
 Causes at bytes (fronts.Flaw (faults.BadChar p)) size = (p ≡ at) × (size ≡ None) × (OpensText bytes → ⊥) × (OpensComment bytes → ⊥)
@@ -120,7 +120,7 @@ quote_causes at b rest q =
     (λ three. comment_causes at (b ∷ rest) 5 6 _ (_, inr (starts_so (b ∷ rest) (34 ∷ 34 ∷ 34 ∷ []) three)))
     (λ other. text_causes at b rest _ q other refl)
 
-front_causes : (at b : ℕ) (rest : List ℕ) → Causes at (b ∷ rest) (front_of at (b ∷ rest)) (size_of b rest)
+pub front_causes : (at b : ℕ) (rest : List ℕ) → Causes at (b ∷ rest) (front_of at (b ∷ rest)) (size_of b rest)
 front_causes at b rest =
     both_if (Causes at (b ∷ rest)) (is_blank_byte b) _ _ _ _ (λ _. tt) (λ _.
     both_if (Causes at (b ∷ rest)) (is_name_start b) _ _ _ _ (λ _. name_causes at b rest) (λ _.

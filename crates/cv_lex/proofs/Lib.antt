@@ -16,3 +16,4 @@ pub mod Causes
 pub mod Faulty
 pub mod Spaced
 pub mod Rising
+pub mod Deciding

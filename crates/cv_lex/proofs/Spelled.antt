@@ -65,7 +65,7 @@ pub lexemes_spelled : (bytes : List ℕ) (ls : List Lexeme) → lexemes 0 0 byte
 lexemes_spelled bytes ls e = sound 0 0 0 bytes ls refl (omega arith) e
 
 -- what stands at the front is found there
-abbrev IsFound : Option Sort → ℕ → List ℕ → Type 0
+abbrev pub IsFound : Option Sort → ℕ → List ℕ → Type 0
 IsFound thing n [] = ⊥
 IsFound thing n (b ∷ rest) = size_of b rest ≡ Some (thing, n)
 
@@ -75,7 +75,7 @@ found_size thing n b rest (Some found) e (inl h) longest = let bound = longest f
 found_size thing n b rest (Some found) e (inr h) longest =
     e ∙ ap (λ (t : Option Sort). Some (t, found.1)) (sym h.1) ∙ ap (λ (m : ℕ). Some (thing, m)) (sym h.0)
 
-found : (thing : Option Sort) (front bytes : List ℕ) → ((other : Option Sort) (longer tail : List ℕ) → bytes ≡ longer ++ tail → IsAt other longer tail → length longer ≤ length front) → Covers thing (length front) (front_size bytes) → IsFound thing (length front) bytes
+pub found : (thing : Option Sort) (front bytes : List ℕ) → ((other : Option Sort) (longer tail : List ℕ) → bytes ≡ longer ++ tail → IsAt other longer tail → length longer ≤ length front) → Covers thing (length front) (front_size bytes) → IsFound thing (length front) bytes
 found thing front [] longest c = c
 found thing front (b ∷ rest) longest c =
     found_size thing (length front) b rest _ refl c (λ other m e.
@@ -92,10 +92,10 @@ abbrev count_of : Size → ℕ
 count_of None = 0
 count_of (Some found) = found.1
 
-thing_same : (s t : Option Sort) (m n : ℕ) → ◌≡◌ {A = Size} (Some (s, m)) (Some (t, n)) → s ≡ t
+pub thing_same : (s t : Option Sort) (m n : ℕ) → ◌≡◌ {A = Size} (Some (s, m)) (Some (t, n)) → s ≡ t
 thing_same s t m n e = ap (λ (size : Size). thing_of size) e
 
-size_same : (s t : Option Sort) (m n : ℕ) → ◌≡◌ {A = Size} (Some (s, m)) (Some (t, n)) → m ≡ n
+pub size_same : (s t : Option Sort) (m n : ℕ) → ◌≡◌ {A = Size} (Some (s, m)) (Some (t, n)) → m ≡ n
 size_same s t m n e = ap (λ (size : Size). count_of size) e
 
 some_none : (sort : Sort) → Some sort ≡ None → ⊥
@@ -117,9 +117,9 @@ lexeme_is bytes (fronts.Lexeme other more) size sort n e f a =
 lexeme_is bytes (fronts.Flaw fault) size sort n e f a = absurd (subst (Agrees bytes (fronts.Flaw fault)) e a f)
 
 -- a thing and the lexemes behind it
-complete_blank : (at : ℕ) (front rest bytes : List ℕ) (ls : List Lexeme) → bytes ≡ front ++ rest → IsFound None (length front) bytes → lexemes (at + length front) 0 rest ≡ Ok ls → lexemes at 0 bytes ≡ Ok ls
-complete_blank at front rest [] ls e f h = absurd f
-complete_blank at front rest (b ∷ bytes) ls e f h =
+pub complete_blank : (at : ℕ) (front rest bytes : List ℕ) (r : Result (List Lexeme) LexFault) → bytes ≡ front ++ rest → IsFound None (length front) bytes → lexemes (at + length front) 0 rest ≡ r → lexemes at 0 bytes ≡ r
+complete_blank at front rest [] r e f h = absurd f
+complete_blank at front rest (b ∷ bytes) r e f h =
     let k = blank_is (b ∷ bytes) (front_of at (b ∷ bytes)) (size_of b bytes) (length front) f (front_agrees at b bytes) in
     let count : k.0 + 1 ≡ length front = omega (arith, k.2) in
     lexemes-blank at (b ∷ bytes) k.0 (omega arith) k.1
@@ -127,13 +127,13 @@ complete_blank at front rest (b ∷ bytes) ls e f h =
     ∙ ap (λ (xs : List ℕ). lexemes (at + length front) 0 (drop (length front) xs)) e
     ∙ ap (lexemes (at + length front) 0) (drop-front front rest) ∙ h
 
-complete_lexeme : (at : ℕ) (sort : Sort) (front rest bytes : List ℕ) (ls : List Lexeme) → bytes ≡ front ++ rest → IsFound (Some sort) (length front) bytes → Fits sort front → lexemes (at + length front) 0 rest ≡ Ok ls → lexemes at 0 bytes ≡ Ok (record { sort = sort; at = at; len = length front } ∷ ls)
-complete_lexeme at sort front rest [] ls e f fits h = absurd f
-complete_lexeme at sort front rest (b ∷ bytes) ls e f fits h =
+pub complete_lexeme : (at : ℕ) (sort : Sort) (front rest bytes : List ℕ) (r : Result (List Lexeme) LexFault) → bytes ≡ front ++ rest → IsFound (Some sort) (length front) bytes → Fits sort front → lexemes (at + length front) 0 rest ≡ r → lexemes at 0 bytes ≡ with_front (record { sort = sort; at = at; len = length front } ∷ []) r
+complete_lexeme at sort front rest [] r e f fits h = absurd f
+complete_lexeme at sort front rest (b ∷ bytes) r e f fits h =
     let first : take (length front) (b ∷ bytes) ≡ front = ap (take (length front)) e ∙ take-front front rest in
     let k = lexeme_is (b ∷ bytes) (front_of at (b ∷ bytes)) (size_of b bytes) sort (length front) f (subst (Fits sort) (sym first) fits) (front_agrees at b bytes) in
     let count : k.0 + 1 ≡ length front = omega (arith, k.2) in
-    let behind : lexemes (at + length front) 0 (drop (length front) (b ∷ bytes)) ≡ Ok ls =
+    let behind : lexemes (at + length front) 0 (drop (length front) (b ∷ bytes)) ≡ r =
     ap (λ (xs : List ℕ). lexemes (at + length front) 0 (drop (length front) xs)) e ∙ ap (lexemes (at + length front) 0) (drop-front front rest) ∙ h in
     lexemes-lexeme at (b ∷ bytes) sort k.0 (omega arith) k.1
     ∙ ap (λ (n : ℕ). with_front (record { sort = sort; at = at; len = n } ∷ []) (lexemes (at + n) 0 (drop n (b ∷ bytes)))) count
@@ -143,9 +143,9 @@ complete_lexeme at sort front rest (b ∷ bytes) ls e f fits h =
 pub spelled_lexemes : (at : ℕ) (bytes : List ℕ) (ls : List Lexeme) → Spells at bytes ls → lexemes at 0 bytes ≡ Ok ls
 spelled_lexemes at bytes ls nothing = refl
 spelled_lexemes at bytes ls (blank {rest = rest} {lexemes = ms} front s h) =
-    complete_blank at front rest (front ++ rest) ms refl (found None front (front ++ rest) s.longest (size_covers None front rest s.is)) (spelled_lexemes (at + length front) rest ms h)
+    complete_blank at front rest (front ++ rest) (Ok ms) refl (found None front (front ++ rest) s.longest (size_covers None front rest s.is)) (spelled_lexemes (at + length front) rest ms h)
 spelled_lexemes at bytes ls (lexeme {rest = rest} {lexemes = ms} sort front s f h) =
-    complete_lexeme at sort front rest (front ++ rest) ms refl (found (Some sort) front (front ++ rest) s.longest (size_covers (Some sort) front rest s.is)) f (spelled_lexemes (at + length front) rest ms h)
+    complete_lexeme at sort front rest (front ++ rest) (Ok ms) refl (found (Some sort) front (front ++ rest) s.longest (size_covers (Some sort) front rest s.is)) f (spelled_lexemes (at + length front) rest ms h)
 
 -- no bytes spell two lists
 pub one_spelling : (bytes : List ℕ) (ls ms : List Lexeme) → Spells 0 bytes ls → Spells 0 bytes ms → ls ≡ ms

@@ -1,10 +1,11 @@
 //! A text cut into its lexemes.
 
-ghost use Rattle.std.specs.Prelude.{◌≡◌, ◌+◌, ◌<◌, ◌≤◌, ◌^◌, length, drop, IfOk, IfErr, ◌↔◌, List, [], ◌∷◌, Ok, Some, None, ℕ};
-ghost use Rattle.cv_lex.specs.Faults.{IsCaused};
+ghost use Rattle.std.specs.Prelude.{◌≡◌, ◌+◌, ◌<◌, ◌≤◌, ◌^◌, length, drop, IfOk, IfErr, ◌↔◌, List, [], ◌∷◌, Ok, Err, Some, None, ℕ};
+ghost use Rattle.cv_lex.specs.Faults.{HasFault, IsCaused};
 ghost use Rattle.cv_lex.specs.Lexemes.{lexemes, with_front, Fails, Gives, Rise};
 ghost use Rattle.cv_lex.specs.Shapes.{IsAt, Stands};
 ghost use Rattle.cv_lex.specs.Spelling.{Spells};
+ghost use Rattle.cv_lex.specs.declared.lexeme.LexFault.{LexFault};
 ghost use Rattle.cv_lex.specs.declared.lexeme.Lexeme.{Lexeme};
 ghost use Rattle.cv_lex.specs.declared.lexeme.Sort.{Sort};
 
@@ -65,8 +66,10 @@ pub fn lex(alloc: Global, source: &str) -> Result<Vec<Lexeme>, LexFault>
     // The spans rise, and end within the source.
     ensures rising { IfOk result (λ found. Rise 0 found.items (length source.now)) }
 
-    // Each fault stands where white space, comments and lexemes lead to, and has its cause there.
+    // Each fault stands where white space, comments and lexemes lead to, and has its cause there. A
+    // source with such a fault is answered with it.
     ensures cause { IfErr result (IsCaused source.now) }
+    ensures faulty { (fault : LexFault) → HasFault source.now fault → Gives result (Err fault) }
 {
     lex_all(alloc, source)
 }

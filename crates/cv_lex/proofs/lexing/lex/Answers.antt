@@ -1,5 +1,6 @@
 use Rattle.std.proofs.Common.{subst}
 use Rattle.cv_lex.specs.Lexemes.{Gives}
+use Rattle.cv_lex.proofs.Deciding.{fault_only}
 use Rattle.cv_lex.proofs.Rising.{gives_rising}
 use Rattle.cv_lex.proofs.Spelled.{gives_caused, gives_spelled, spelled_lexemes}
 use Rattle.cv_lex.proofs.lexing.lex.Goals as goal
@@ -15,3 +16,6 @@ returns-clause-cause c = gives_caused c.lex_all.result c.args.source.now c.lex_a
 
 pub returns-clause-rising : goal.returns-clause-rising
 returns-clause-rising c = gives_rising c.lex_all.result c.args.source.now c.lex_all.ensures
+
+pub returns-clause-faulty : goal.returns-clause-faulty
+returns-clause-faulty c = λ fault has. subst (Gives c.lex_all.result) (fault_only c.args.source.now fault has) c.lex_all.ensures
