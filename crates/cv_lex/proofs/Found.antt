@@ -1,5 +1,5 @@
 -- Each lexeme of a source is a part of it that splits no character.
-use Rattle.std.proofs.Common.{◌≡◌, ℕ, zero, suc, ◌+◌, ◌-◌, List, [], ◌∷◌, get_or, drop, Result, Ok, Err, refl, ap, ◌∙◌, subst, add-one, arith}
+use Rattle.std.proofs.Common.{◌≡◌, ℕ, zero, suc, ◌+◌, ◌-◌, List, [], ◌∷◌, get_or, take, drop, Result, Ok, Err, refl, ap, ◌∙◌, subst, add-one, arith}
 use Rattle.std.specs.Str.{IsUtf8, IsCharBoundary}
 use Rattle.std.specs.List.{All, AllByRecursion}
 use Rattle.std.proofs.lemmas.Str.{IsCharBoundary-before_ascii, IsCharBoundary-after_ascii}
@@ -12,6 +12,9 @@ use Rattle.cv_lex.specs.declared.fronts.Front.{Front}
 use Rattle.cv_lex.specs.declared.fronts.Front.TheVariants as fronts
 use Rattle.cv_lex.specs.Cuts.{IsCut}
 use Rattle.cv_lex.specs.Fronts.{front_of}
+use Rattle.cv_lex.specs.Shapes.{Fits}
+use Rattle.cv_lex.specs.Words.{bytes_of}
+use Rattle.cv_lex.proofs.Agrees.{KeepsLimits, front_limits}
 use Rattle.cv_lex.specs.Lexemes.{lexemes, by_front, with_front}
 use Rattle.cv_lex.proofs.Edges.{IsPiece, piece}
 
@@ -19,17 +22,19 @@ abbrev AllCut : List ℕ → List Lexeme → Type 0
 AllCut source = AllByRecursion (IsCut source)
 
 -- a piece at a place is a part of the source
-cut : (source : List ℕ) (at : ℕ) (sort : Sort) (more : ℕ) → IsUtf8 source → IsPiece (drop at source) (fronts.Lexeme sort more) → IsCut source (record { sort = sort; at = at; len = more + 1 })
-cut source at sort more u p =
+cut : (source : List ℕ) (at : ℕ) (sort : Sort) (more : ℕ) → IsUtf8 source → IsPiece (drop at source) (fronts.Lexeme sort more) → Fits sort (take (suc more) (drop at source)) → IsCut source (record { sort = sort; at = at; len = more + 1 })
+cut source at sort more u p f =
     let first : get_or (drop at source) 0 0 ≡ get_or source at 0 = get_or-drop at source 0 0 ∙ ap (λ n. get_or source n 0) (omega arith) in
     let last = get_or-drop at source more 0 in
     let size = length-drop at source in
     let ends : at + more + 1 ≡ at + (more + 1) = omega arith in
+    let count : suc more ≡ at + (more + 1) - at = omega arith in
     let lasts : at + more ≡ at + (more + 1) - 1 = omega arith in
     record {
       some = omega arith;
       quotes = λ e. omega (arith, p.3 e);
       within = omega (arith, p.0);
+      fits = subst (λ (n : ℕ). Fits sort (take n (drop at source))) count f;
       start = IsCharBoundary-before_ascii source at (omega (arith, p.0)) (omega (arith, p.1));
       opened = IsCharBoundary-after_ascii source at u (omega (arith, p.0)) (omega (arith, p.1));
       closed = subst (IsCharBoundary source) lasts (IsCharBoundary-before_ascii source (at + more) (omega (arith, p.0)) (omega (arith, p.2)));
@@ -41,10 +46,10 @@ behind : (source : List ℕ) (lexeme : Lexeme) (r : Result (List Lexeme) LexFaul
 behind source lexeme (Ok ms) ls c all e = let same : lexeme ∷ ms ≡ ls = cc in subst (AllCut source) same (c, all ms refl)
 behind source lexeme (Err fault) ls c all e = cc
 
-at_front : (source : List ℕ) (at : ℕ) (front : Front) (next : ℕ → Result (List Lexeme) LexFault) (ls : List Lexeme) → IsUtf8 source → IsPiece (drop at source) front → ((k : ℕ) (ms : List Lexeme) → next k ≡ Ok ms → AllCut source ms) → by_front at front next ≡ Ok ls → AllCut source ls
-at_front source at (fronts.Blank more) next ls u p all e = all more ls e
-at_front source at (fronts.Lexeme sort more) next ls u p all e = behind source _ (next more) ls (cut source at sort more u p) (all more) e
-at_front source at (fronts.Flaw fault) next ls u p all e = cc
+at_front : (source : List ℕ) (at : ℕ) (front : Front) (next : ℕ → Result (List Lexeme) LexFault) (ls : List Lexeme) → IsUtf8 source → IsPiece (drop at source) front → KeepsLimits (drop at source) front → ((k : ℕ) (ms : List Lexeme) → next k ≡ Ok ms → AllCut source ms) → by_front at front next ≡ Ok ls → AllCut source ls
+at_front source at (fronts.Blank more) next ls u p f all e = all more ls e
+at_front source at (fronts.Lexeme sort more) next ls u p f all e = behind source _ (next more) ls (cut source at sort more u p f) (all more) e
+at_front source at (fronts.Flaw fault) next ls u p f all e = cc
 
 drop-next : (at : ℕ) (source : List ℕ) (x : ℕ) (rest : List ℕ) → x ∷ rest ≡ drop at source → rest ≡ drop (at + 1) source
 drop-next zero source x rest e = ap (drop 1) e
@@ -57,8 +62,13 @@ cuts source u at (suc k) (x ∷ rest) e ls h = cuts source u (at + 1) k rest (dr
 cuts source u at zero (x ∷ rest) e ls h =
     at_front source at (front_of at (x ∷ rest)) (λ k. lexemes (at + 1) k rest) ls u
     (subst (λ bytes. IsPiece bytes (front_of at (x ∷ rest))) e (piece at (x ∷ rest) (omega arith)))
+    (subst (λ bytes. KeepsLimits bytes (front_of at (x ∷ rest))) e (front_limits at x rest))
     (λ k ms. cuts source u (at + 1) k rest (drop-next at source x rest e) ms) h
 
 -- each lexeme of a source is a part of it
 pub all_cut : (source : List ℕ) (ls : List Lexeme) → IsUtf8 source → lexemes 0 0 source ≡ Ok ls → All (IsCut source) ls
 all_cut source ls u h = All-from_recursion (IsCut source) ls (cuts source u 0 0 source refl ls h)
+
+-- and keeps the limits of its sort
+pub all_fit : (source : List ℕ) (ls : List Lexeme) → IsUtf8 source → lexemes 0 0 source ≡ Ok ls → All (λ lexeme. Fits lexeme.sort (bytes_of source lexeme)) ls
+all_fit source ls u h = λ k d within. (all_cut source ls u h k d within).fits

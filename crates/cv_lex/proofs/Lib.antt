@@ -3,3 +3,17 @@ pub mod Skips
 pub mod Edges
 pub mod Found
 pub mod Sayings
+pub mod Runs
+pub mod Places
+pub mod Insides
+pub mod Sizes
+pub mod Right
+pub mod Covers
+pub mod Agrees
+pub mod Spelled
+pub mod Stood
+pub mod Causes
+pub mod Faulty
+pub mod Spaced
+pub mod Rising
+pub mod Deciding

@@ -1,5 +1,5 @@
 -- The lexemes of a text.
-use Rattle.std.specs.Prelude.{◌≡◌, ℕ, zero, suc, ◌+◌, List, [], ◌∷◌, ◌++◌, Result, Ok, Err, Vec}
+use Rattle.std.specs.Prelude.{◌≡◌, ℕ, zero, suc, ◌+◌, ◌<◌, ◌≤◌, List, [], ◌∷◌, ◌++◌, Result, Ok, Err, Vec}
 use Rattle.cv_lex.specs.declared.lexeme.Lexeme.{Lexeme}
 use Rattle.cv_lex.specs.declared.lexeme.LexFault.{LexFault}
 use Rattle.cv_lex.specs.declared.lexeme.LexFault.TheVariants as faults
@@ -38,3 +38,8 @@ Fails faults.OutOfMemory answer = Unit {0}
 abbrev pub Gives : {A : Type 0} → Result (Vec Lexeme A) LexFault → Result (List Lexeme) LexFault → Type 0
 Gives (Ok found) answer = answer ≡ Ok found.items
 Gives (Err fault) answer = Fails fault answer
+
+-- lexemes stand one behind another between two places, and each has bytes
+abbrev pub Rise : ℕ → List Lexeme → ℕ → Type 0
+Rise from [] end = from ≤ end
+Rise from (lexeme ∷ more) end = (from ≤ lexeme.at) × (0 < lexeme.len) × Rise (lexeme.at + lexeme.len) more end

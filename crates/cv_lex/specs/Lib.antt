@@ -1,9 +1,12 @@
 pub mod Bytes
 pub mod Cuts
+pub mod Faults
 pub mod Fronts
 pub mod Lexemes
 pub mod Numbers
 pub mod Pieces
+pub mod Shapes
 pub mod Spans
+pub mod Spelling
 pub mod Texts
 pub mod Words

@@ -1,7 +1,13 @@
 //! A text cut into its lexemes.
 
-ghost use Rattle.std.specs.Prelude.{◌≡◌, ◌+◌, ◌<◌, ◌≤◌, ◌^◌, length, drop, IfOk, IfErr};
-ghost use Rattle.cv_lex.specs.Lexemes.{lexemes, with_front, Fails, Gives};
+ghost use Rattle.std.specs.Prelude.{◌≡◌, ◌+◌, ◌<◌, ◌≤◌, ◌^◌, length, drop, IfOk, IfErr, ◌↔◌, List, [], ◌∷◌, Ok, Err, Some, None, ℕ};
+ghost use Rattle.cv_lex.specs.Faults.{HasFault, IsCaused};
+ghost use Rattle.cv_lex.specs.Lexemes.{lexemes, with_front, Fails, Gives, Rise};
+ghost use Rattle.cv_lex.specs.Shapes.{IsAt, Stands};
+ghost use Rattle.cv_lex.specs.Spelling.{Spells};
+ghost use Rattle.cv_lex.specs.declared.lexeme.LexFault.{LexFault};
+ghost use Rattle.cv_lex.specs.declared.lexeme.Lexeme.{Lexeme};
+ghost use Rattle.cv_lex.specs.declared.lexeme.Sort.{Sort};
 
 use crate::fronts::{Front, at_front};
 use crate::lexeme::{LexFault, Lexeme, Sort};
@@ -27,8 +33,8 @@ fn take_front(found: &mut Vec<Lexeme>, rest: &[u8], at: u32) -> Result<usize, Le
     }
 }
 
-/// The lexemes of a script, in order.
-pub fn lex(alloc: Global, source: &str) -> Result<Vec<Lexeme>, LexFault>
+/// The lexemes of a script, in order, or its first fault from the left.
+fn lex_all(alloc: Global, source: &str) -> Result<Vec<Lexeme>, LexFault>
     requires { length source.now ≤ 2 ^ 31 }
     ensures { Gives result (lexemes 0 0 source.now) }
 {
@@ -42,3 +48,41 @@ pub fn lex(alloc: Global, source: &str) -> Result<Vec<Lexeme>, LexFault>
     }
     Ok(found)
 }
+
+/// The lexemes of a script, in order. White space and comments stand between them, and of what may
+/// stand at a place the longest is taken.
+///
+/// # Errors
+///
+/// The first fault from the left, with its place in bytes; or `OutOfMemory`.
+pub fn lex(alloc: Global, source: &str) -> Result<Vec<Lexeme>, LexFault>
+    requires { length source.now ≤ 2 ^ 31 }
+    ensures exact { Gives result (lexemes 0 0 source.now) }
+
+    // Unless memory runs out, the answer is Ok exactly where the source spells lexemes.
+    ensures found { IfOk result (λ found. Spells 0 source.now found.items) }
+    ensures only { (spelled : List Lexeme) → Spells 0 source.now spelled → Gives result (Ok spelled) }
+
+    // The spans rise, and end within the source.
+    ensures rising { IfOk result (λ found. Rise 0 found.items (length source.now)) }
+
+    // Each fault stands where white space, comments and lexemes lead to, and has its cause there. A
+    // source with such a fault is answered with it.
+    ensures cause { IfErr result (IsCaused source.now) }
+    ensures faulty { (fault : LexFault) → HasFault source.now fault → Gives result (Err fault) }
+{
+    lex_all(alloc, source)
+}
+
+/// No bytes spell two lists of lexemes, and the lexemes of bytes are those that they spell.
+pub fn one_spelling()
+    ensures one { (bytes : List ℕ) (first second : List Lexeme) → Spells 0 bytes first → Spells 0 bytes second → first ≡ second }
+    ensures same { (bytes : List ℕ) (spelled : List Lexeme) → (lexemes 0 0 bytes ≡ Ok spelled) ↔ Spells 0 bytes spelled }
+{}
+
+/// A lexeme that a space follows is the longest that stands there, and so is the space: what a
+/// printer needs that puts a space behind each lexeme.
+pub fn before_a_space()
+    ensures lexeme { (sort : Sort) (front rest : List ℕ) → IsAt (Some sort) front (32 ∷ rest) → Stands (Some sort) front (32 ∷ rest) }
+    ensures space { (rest : List ℕ) → Stands None (32 ∷ []) rest }
+{}

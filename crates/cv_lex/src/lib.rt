@@ -13,7 +13,7 @@ pub mod word;
 pub mod wording;
 
 pub use lexeme::{LexFault, Lexeme, Sort};
-pub use lexing::lex;
+pub use lexing::{before_a_space, lex, one_spelling};
 pub use word::{Mark, Placed, Reserved, Word};
 pub use wording::words;
 

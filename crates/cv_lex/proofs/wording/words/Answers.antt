@@ -1,6 +1,15 @@
 use Rattle.std.proofs.Common.{arith}
-use Rattle.cv_lex.proofs.Found.{all_cut}
+use Rattle.cv_lex.proofs.Found.{all_cut, all_fit}
 use Rattle.cv_lex.proofs.wording.words.Goals as goal
 
 pub word_of-requires : goal.word_of-requires
 word_of-requires c = all_cut c.args.source.now c.args.found.now c.utf8.source c.requires _ _ (omega arith)
+
+pub returns-in_err-word-clause-fit : goal.returns-in_err-word-clause-fit
+returns-in_err-word-clause-fit c = all_fit c.args.source.now c.args.found.now c.utf8.source c.requires
+
+pub returns-in_err-push-clause-fit : goal.returns-in_err-push-clause-fit
+returns-in_err-push-clause-fit c = all_fit c.args.source.now c.args.found.now c.utf8.source c.requires
+
+pub returns-clause-fit : goal.returns-clause-fit
+returns-clause-fit c = all_fit c.args.source.now c.args.found.now c.utf8.source c.requires

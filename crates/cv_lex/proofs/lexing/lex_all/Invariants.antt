@@ -1,6 +1,6 @@
 use Rattle.std.proofs.Common.{◌≡◌, ◌+◌, length}
 use Rattle.cv_lex.specs.Lexemes.{lexemes, with_front}
-use Rattle.cv_lex.proofs.lexing.lex.Given as goal
+use Rattle.cv_lex.proofs.lexing.lex_all.Given as goal
 
 -- the lexemes so far and those of the rest are those of the whole
 abbrev pub invariant-loop-rest : goal.invariant-loop-rest
