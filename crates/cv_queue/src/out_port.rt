@@ -177,6 +177,7 @@ impl OutPort {
     /// The reader at place `i`, where there is one.
     pub fn reader(&self, i: u16) -> Option<Reader>
         ensures value { result ≡ slice_get self.now.readers i }
+        ensures there { IsSome result ↔ (i < length self.now.readers) }
         ensures positions { IfSome result (λ r. (r.acked ≤ r.sent) × (r.sent ≤ count_of self.now i)) }
     {
         self.readers.get(usize::from(i)).copied()
