@@ -165,6 +165,7 @@ impl InPort {
     pub fn cancel(&mut self)
         ensures { self.new ≡ after_cancel self.old }
     {
+        // Nothing is taken.
         self.tentative = 0;
     }
 

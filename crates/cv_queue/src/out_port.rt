@@ -268,6 +268,7 @@ impl OutPort {
         requires { IsSomeAnd (slice_get self.old.readers reader) (HasUnsent self.old reader) }
         ensures { self.new ≡ after_sent self.old reader }
     {
+        // The token stays until it is acknowledged.
         let before = reader_at(&self.readers, reader);
         self.readers[usize::from(reader)] = Reader {
             sent: before.sent + 1,
