@@ -5,7 +5,7 @@ ghost use Rattle.std.specs.Option.{option_copied};
 ghost use Rattle.cv_queue.specs.Ports.{place, reader_from, count, IsOutPort, AreWritten, count_of, first_needed_from, new_out, out_at, space, token_at, token_for, after_write, acknowledges, after_ack, after_rewind, after_sent, HasUnsent, IsThere};
 
 use crate::reader::{Reader, Readers};
-use crate::slots::{drop_front, reserved};
+use crate::slots::{copied, drop_front, reserved};
 use cv_token::{Items, OutOfMemory, Token};
 use std::alloc::Global;
 use std::marker::Model;
@@ -142,6 +142,18 @@ impl OutPort {
             cap,
             readers,
         }))
+    }
+
+    /// An equal port of its own, whose places are reserved too.
+    pub fn copy(&self, alloc: Global) -> Result<OutPort, OutOfMemory>
+        ensures { IfOk result (λ port. port ≡ self.now) }
+    {
+        Ok(OutPort {
+            held: copied(alloc, self.cap, &self.held)?,
+            write: self.write,
+            cap: self.cap,
+            readers: Vec::from_slice(alloc, &self.readers)?,
+        })
     }
 
     /// How many tokens were written.

@@ -89,8 +89,9 @@ fn inports_stand_so(rt: HostRuntime) -> Result<(), Fail> {
         let port = InPort::of(rt.alloc(), cap, taken, numbers(rt.alloc(), count)?)?;
         assert_eq!(rt; port.is_some(), stands);
         if let Some(port) = port {
-            assert_eq!(rt; port.received(), taken + 2);
-            assert!(rt; is_number(port.head(1), 1));
+            let twin = port.copy(rt.alloc())?;
+            assert_eq!(rt; twin.received(), taken + 2);
+            assert!(rt; is_number(twin.head(1), 1));
         }
     }
     Ok(())
@@ -112,8 +113,9 @@ fn outports_stand_so(rt: HostRuntime) -> Result<(), Fail> {
         let port = OutPort::of(rt.alloc(), cap, written, numbers(rt.alloc(), count)?, list)?;
         assert_eq!(rt; port.is_some(), stands);
         if let Some(port) = port {
-            assert_eq!(rt; port.written(), written);
-            assert!(rt; port.len() == 0 || is_number(port.token_at(8), 1));
+            let twin = port.copy(rt.alloc())?;
+            assert_eq!(rt; twin.written(), written);
+            assert!(rt; twin.len() == 0 || is_number(twin.token_at(8), 1));
         }
     }
     let unread = OutPort::of(
