@@ -1,7 +1,7 @@
 //! What a producer sends next, and what its end and its consumer's make of what comes to them.
 
-ghost use Rattle.std.specs.Prelude.{◌≡◌, ℕ, ◌+◌, ◌^◌, ◌<◌, ◌≤◌, length, slice_get, Some, IfOk, OnOk, OnErr};
-ghost use Rattle.cv_queue.specs.Ports.{received, after_offer, after_ack, acknowledges};
+ghost use Rattle.std.specs.Prelude.{◌≡◌, ℕ, ◌+◌, ◌^◌, ◌<◌, ◌≤◌, length, slice_get, Some, IfOk, IfSome, OnSome, IsSomeAnd, OnOk, OnErr};
+ghost use Rattle.cv_queue.specs.Ports.{received, after_offer, after_ack, acknowledges, HasUnsent, IsThere};
 ghost use Rattle.cv_endpoint.specs.Ends.{next_number, acked, after_nack, answer_of, to_move, is_there, out_after_move, in_after_move};
 
 use cv_queue::{InPort, Offered, OutPort, Reader};
@@ -33,7 +33,9 @@ fn reader_of(out: &OutPort, reader: u16) -> Reader
 /// are sent, or `window` of them are sent and not acknowledged.
 pub fn next_to_send(out: &OutPort, reader: u16, window: u16) -> Option<u64>
     requires { reader < length out.now.readers }
-    ensures { result ≡ next_number out.now reader window }
+    ensures value { result ≡ next_number out.now reader window }
+    ensures unsent { OnSome result (IsSomeAnd (slice_get out.now.readers reader) (HasUnsent out.now reader)) }
+    ensures there { IfSome result (λ n. IsThere out.now reader n (slice_get out.now.readers reader)) }
 {
     let found = reader_of(out, reader);
     if found.sent < out.count(reader) && found.sent - found.acked < u64::from(window) {
@@ -101,8 +103,9 @@ pub fn local_move(
     if inp.len() == inp.cap() {
         return Ok(false);
     }
-    if inp.received() == next {
-        let _taken = inp.offer(next, token.copy(alloc)?);
+    let received = inp.received();
+    if received == next {
+        let _taken = inp.offer(received, token.copy(alloc)?);
     }
     out.ack(reader, next + 1);
     Ok(true)

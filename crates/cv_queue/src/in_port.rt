@@ -4,7 +4,7 @@ ghost use Rattle.std.specs.Prelude.{◌≡◌, ℕ, ◌+◌, ◌-◌, ◌^◌, �
 ghost use Rattle.std.specs.Option.{option_copied};
 ghost use Rattle.cv_queue.specs.Ports.{IsInPort, received, new_in, in_at, answer_to, after_offer, after_peek, after_commit, after_cancel};
 
-use crate::slots::{drop_front, reserved};
+use crate::slots::{copied, drop_front, reserved};
 use cv_token::{Items, OutOfMemory, Token};
 use std::alloc::Global;
 use std::marker::Model;
@@ -82,6 +82,18 @@ impl InPort {
             tentative: 0,
             cap,
         }))
+    }
+
+    /// An equal port of its own, whose places are reserved too.
+    pub fn copy(&self, alloc: Global) -> Result<InPort, OutOfMemory>
+        ensures { IfOk result (λ port. port ≡ self.now) }
+    {
+        Ok(InPort {
+            held: copied(alloc, self.cap, &self.held)?,
+            taken: self.taken,
+            tentative: self.tentative,
+            cap: self.cap,
+        })
     }
 
     /// How many tokens were taken.
@@ -165,6 +177,7 @@ impl InPort {
     pub fn cancel(&mut self)
         ensures { self.new ≡ after_cancel self.old }
     {
+        // Nothing is taken.
         self.tentative = 0;
     }
 

@@ -9,3 +9,6 @@ mod slots;
 pub use in_port::{InPort, Offered};
 pub use out_port::OutPort;
 pub use reader::{Reader, Readers, Subscription};
+
+#[cfg(test)]
+mod tests;

@@ -5,7 +5,7 @@ ghost use Rattle.std.specs.Option.{option_copied};
 ghost use Rattle.cv_queue.specs.Ports.{place, reader_from, count, IsOutPort, AreWritten, count_of, first_needed_from, new_out, out_at, space, token_at, token_for, after_write, acknowledges, after_ack, after_rewind, after_sent, HasUnsent, IsThere};
 
 use crate::reader::{Reader, Readers};
-use crate::slots::{drop_front, reserved};
+use crate::slots::{copied, drop_front, reserved};
 use cv_token::{Items, OutOfMemory, Token};
 use std::alloc::Global;
 use std::marker::Model;
@@ -144,6 +144,18 @@ impl OutPort {
         }))
     }
 
+    /// An equal port of its own, whose places are reserved too.
+    pub fn copy(&self, alloc: Global) -> Result<OutPort, OutOfMemory>
+        ensures { IfOk result (λ port. port ≡ self.now) }
+    {
+        Ok(OutPort {
+            held: copied(alloc, self.cap, &self.held)?,
+            write: self.write,
+            cap: self.cap,
+            readers: Vec::from_slice(alloc, &self.readers)?,
+        })
+    }
+
     /// How many tokens were written.
     pub fn written(&self) -> u64
         ensures value { result ≡ self.now.write }
@@ -177,6 +189,7 @@ impl OutPort {
     /// The reader at place `i`, where there is one.
     pub fn reader(&self, i: u16) -> Option<Reader>
         ensures value { result ≡ slice_get self.now.readers i }
+        ensures there { IsSome result ↔ (i < length self.now.readers) }
         ensures positions { IfSome result (λ r. (r.acked ≤ r.sent) × (r.sent ≤ count_of self.now i)) }
     {
         self.readers.get(usize::from(i)).copied()
@@ -267,6 +280,7 @@ impl OutPort {
         requires { IsSomeAnd (slice_get self.old.readers reader) (HasUnsent self.old reader) }
         ensures { self.new ≡ after_sent self.old reader }
     {
+        // The token stays until it is acknowledged.
         let before = reader_at(&self.readers, reader);
         self.readers[usize::from(reader)] = Reader {
             sent: before.sent + 1,

@@ -19,6 +19,18 @@ pub(crate) fn reserved(alloc: Global, cap: u16, mut list: Items) -> Result<Vec<T
     Ok(slots)
 }
 
+/// Copies of the tokens in a `Vec` with room for `cap` of them.
+pub(crate) fn copied(alloc: Global, cap: u16, tokens: &[Token]) -> Result<Vec<Token>, OutOfMemory>
+    ensures items { IfOk result (λ slots. slots.items ≡ tokens.now) }
+    ensures room { IfOk result (λ slots. cap ≤ vec_capacity slots) }
+{
+    let mut slots = Vec::with_capacity(alloc, usize::from(cap))?;
+    for token in tokens {
+        slots.push(token.copy(alloc)?)?;
+    }
+    Ok(slots)
+}
+
 /// Lets the first `n` tokens go.
 pub(crate) fn drop_front(slots: &mut Vec<Token>, n: usize)
     requires { n ≤ vec_len slots.old }
