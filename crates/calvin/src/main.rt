@@ -13,10 +13,21 @@ const MEMORY: u8 = 6;
 
 fn main(rt: HostRuntime) -> ExitCode {
     let alloc = rt.alloc();
-    let Ok(args) = std::env::args(&rt) else { return ExitCode::from(USAGE) };
-    let Ok(words) = args.skip(1).collect::<Vec<String>>(alloc) else { return ExitCode::from(MEMORY) };
+    let Ok(args) = std::env::args(&rt) else {
+        return ExitCode::from(USAGE)
+    };
+    let Ok(words) = args.skip(1).collect::<Vec<String>>(alloc) else {
+        return ExitCode::from(MEMORY)
+    };
     let mut source = StdSource::new(rt.reader());
     let mut sink = StdSink::new(std::io::writer(&rt));
-    let outcome = calvin(&rt, alloc, words.as_slice(), &mut source, &mut sink, &OpenGate);
+    let outcome = calvin(
+        &rt,
+        alloc,
+        words.as_slice(),
+        &mut source,
+        &mut sink,
+        &OpenGate,
+    );
     ExitCode::from(outcome.status)
 }

@@ -20,8 +20,14 @@ pub struct Declared {
 }
 
 /// The actors that the statements declare; None where a declaration is not of the form that is built.
-pub fn read_actors(alloc: Global, statements: &[Statement]) -> Result<Option<Declared>, OutOfMemory> {
-    let mut found = Declared { actors: Vec::new(alloc), places: BTreeMap::new(alloc) };
+pub fn read_actors(
+    alloc: Global,
+    statements: &[Statement],
+) -> Result<Option<Declared>, OutOfMemory> {
+    let mut found = Declared {
+        actors: Vec::new(alloc),
+        places: BTreeMap::new(alloc),
+    };
     for statement in statements {
         if let Statement::Declare(declaration) = statement {
             if !add(alloc, &mut found, declaration)? {
@@ -34,13 +40,21 @@ pub fn read_actors(alloc: Global, statements: &[Statement]) -> Result<Option<Dec
 
 /// Adds the actor of a declaration; false where its name is declared already, its kind or its arguments are not built,
 /// or there are 256 actors.
-fn add(alloc: Global, found: &mut Declared, declaration: &Declaration) -> Result<bool, OutOfMemory> {
+fn add(
+    alloc: Global,
+    found: &mut Declared,
+    declaration: &Declaration,
+) -> Result<bool, OutOfMemory> {
     let name = declaration.name.as_str();
     if found.actors.len() >= MOST_ACTORS || found.places.contains_key(name) {
         return Ok(false);
     }
-    let Some(kind) = kind_of(alloc, declaration)? else { return Ok(false) };
-    let Some(args) = arguments(alloc, kind, declaration.args.as_slice())? else { return Ok(false) };
+    let Some(kind) = kind_of(alloc, declaration)? else {
+        return Ok(false)
+    };
+    let Some(args) = arguments(alloc, kind, declaration.args.as_slice())? else {
+        return Ok(false)
+    };
     let place = found.actors.len() as u16;
     let path = declaration.name.copy(alloc)?;
     found.places.insert(String::from_str(alloc, name)?, place)?;
@@ -60,7 +74,11 @@ fn kind_of(alloc: Global, declaration: &Declaration) -> Result<Option<Kind>, Out
 fn arguments(alloc: Global, kind: Kind, args: &[Argument]) -> Result<Option<Items>, OutOfMemory> {
     match kind {
         Kind::Constant => constant_arguments(alloc, args),
-        Kind::Identity | Kind::Print => Ok(if args.is_empty() { Some(Items::new(alloc)) } else { None }),
+        Kind::Identity | Kind::Print => Ok(if args.is_empty() {
+            Some(Items::new(alloc))
+        } else {
+            None
+        }),
     }
 }
 

@@ -10,11 +10,17 @@ use std::alloc::Global;
 
 /// The connections of the joins, in written order; None where a join is not from an outport of a declared actor to an
 /// inport of a declared actor.
-pub fn read_joins(alloc: Global, statements: &[Statement], declared: &Declared) -> Result<Option<Vec<Join>>, OutOfMemory> {
+pub fn read_joins(
+    alloc: Global,
+    statements: &[Statement],
+    declared: &Declared,
+) -> Result<Option<Vec<Join>>, OutOfMemory> {
     let mut joins = Vec::new(alloc);
     for statement in statements {
         if let Statement::Join { from, to } = statement {
-            let Some(connection) = connection(declared, from, to) else { return Ok(None) };
+            let Some(connection) = connection(declared, from, to) else {
+                return Ok(None)
+            };
             joins.push(connection)?;
         }
     }
@@ -25,8 +31,14 @@ pub fn read_joins(alloc: Global, statements: &[Statement], declared: &Declared) 
 fn connection(declared: &Declared, producer: &Port, consumer: &Port) -> Option<Join> {
     let from = *declared.places.get(producer.actor.as_str())?;
     let to = *declared.places.get(consumer.actor.as_str())?;
-    let out = outport(declared.actors.get(from as usize)?.kind, producer.port.as_str())?;
-    let inp = inport(declared.actors.get(to as usize)?.kind, consumer.port.as_str())?;
+    let out = outport(
+        declared.actors.get(from as usize)?.kind,
+        producer.port.as_str(),
+    )?;
+    let inp = inport(
+        declared.actors.get(to as usize)?.kind,
+        consumer.port.as_str(),
+    )?;
     Some(Join { from, out, to, inp })
 }
 
@@ -42,7 +54,11 @@ pub fn arranged(actors: &[ActorSpec], joins: Vec<Join>) -> Result<Option<Vec<Joi
         return Ok(None);
     }
     joins.sort_by_key(|join| (join.to, join.inp))?;
-    Ok(if joins.len() <= MOST_CONNECTIONS && feed_all(actors, joins.as_slice()) { Some(joins) } else { None })
+    Ok(if joins.len() <= MOST_CONNECTIONS && feed_all(actors, joins.as_slice()) {
+        Some(joins)
+    } else {
+        None
+    })
 }
 
 /// The most connections that a network has.
@@ -63,7 +79,9 @@ fn feed_all(actors: &[ActorSpec], joins: &[Join]) -> bool {
     let mut left = joins;
     for (place, actor) in actors.iter().enumerate() {
         for port in 0..actor.kind.inports() {
-            let Some((join, rest)) = left.split_first() else { return false };
+            let Some((join, rest)) = left.split_first() else {
+                return false
+            };
             if join.to as usize != place || join.inp != port {
                 return false;
             }

@@ -40,11 +40,16 @@ pub enum Statement {
 type Read<'a, X> = Option<(X, &'a [Placed])>;
 
 /// The statements that the words spell; None where they spell no such list.
-pub fn read_statements(alloc: Global, words: &[Placed]) -> Result<Option<Vec<Statement>>, OutOfMemory> {
+pub fn read_statements(
+    alloc: Global,
+    words: &[Placed],
+) -> Result<Option<Vec<Statement>>, OutOfMemory> {
     let mut statements = Vec::new(alloc);
     let mut rest = words;
     while !rest.is_empty() {
-        let Some((statement, after)) = read_statement(alloc, rest)? else { return Ok(None) };
+        let Some((statement, after)) = read_statement(alloc, rest)? else {
+            return Ok(None)
+        };
         statements.push(statement)?;
         rest = after;
     }
@@ -55,7 +60,9 @@ pub fn read_statements(alloc: Global, words: &[Placed]) -> Result<Option<Vec<Sta
 fn read_statement(alloc: Global, words: &[Placed]) -> Result<Read<'_, Statement>, OutOfMemory>
     ensures { IfOk result (λ read. IfSome read (λ r. length r.1.now < length words.now)) }
 {
-    let Some((name, rest)) = read_name(words) else { return Ok(None) };
+    let Some((name, rest)) = read_name(words) else {
+        return Ok(None)
+    };
     let name = name.copy(alloc)?;
     if let Some(rest) = read_mark(rest, Mark::Colon) {
         read_declaration(alloc, name, rest)
@@ -67,30 +74,72 @@ fn read_statement(alloc: Global, words: &[Placed]) -> Result<Read<'_, Statement>
 }
 
 /// A declaration behind its name and colon.
-fn read_declaration(alloc: Global, name: Text, words: &[Placed]) -> Result<Read<'_, Statement>, OutOfMemory>
+fn read_declaration(
+    alloc: Global,
+    name: Text,
+    words: &[Placed],
+) -> Result<Read<'_, Statement>, OutOfMemory>
     ensures { IfOk result (λ read. IfSome read (λ r. length r.1.now < length words.now)) }
 {
-    let Some((group, rest)) = read_name(words) else { return Ok(None) };
-    let Some(rest) = read_mark(rest, Mark::Dot) else { return Ok(None) };
-    let Some((last, rest)) = read_name(rest) else { return Ok(None) };
-    let Some(rest) = read_mark(rest, Mark::OpenParen) else { return Ok(None) };
+    let Some((group, rest)) = read_name(words) else {
+        return Ok(None)
+    };
+    let Some(rest) = read_mark(rest, Mark::Dot) else {
+        return Ok(None)
+    };
+    let Some((last, rest)) = read_name(rest) else {
+        return Ok(None)
+    };
+    let Some(rest) = read_mark(rest, Mark::OpenParen) else {
+        return Ok(None)
+    };
     let group = group.copy(alloc)?;
     let last = last.copy(alloc)?;
-    let Some((args, rest)) = read_arguments(alloc, rest)? else { return Ok(None) };
-    Ok(Some((Statement::Declare(Declaration { name, group, last, args }), rest)))
+    let Some((args, rest)) = read_arguments(alloc, rest)? else {
+        return Ok(None)
+    };
+    Ok(Some((
+        Statement::Declare(Declaration {
+            name,
+            group,
+            last,
+            args,
+        }),
+        rest,
+    )))
 }
 
 /// A join behind its first name and dot.
-fn read_join(alloc: Global, producer: Text, words: &[Placed]) -> Result<Read<'_, Statement>, OutOfMemory>
+fn read_join(
+    alloc: Global,
+    producer: Text,
+    words: &[Placed],
+) -> Result<Read<'_, Statement>, OutOfMemory>
     ensures { IfOk result (λ read. IfSome read (λ r. length r.1.now < length words.now)) }
 {
-    let Some((outport, rest)) = read_name(words) else { return Ok(None) };
-    let Some(rest) = read_mark(rest, Mark::Greater) else { return Ok(None) };
-    let Some((consumer, rest)) = read_name(rest) else { return Ok(None) };
-    let Some(rest) = read_mark(rest, Mark::Dot) else { return Ok(None) };
-    let Some((inport, rest)) = read_name(rest) else { return Ok(None) };
-    let from = Port { actor: producer, port: outport.copy(alloc)? };
-    let to = Port { actor: consumer.copy(alloc)?, port: inport.copy(alloc)? };
+    let Some((outport, rest)) = read_name(words) else {
+        return Ok(None)
+    };
+    let Some(rest) = read_mark(rest, Mark::Greater) else {
+        return Ok(None)
+    };
+    let Some((consumer, rest)) = read_name(rest) else {
+        return Ok(None)
+    };
+    let Some(rest) = read_mark(rest, Mark::Dot) else {
+        return Ok(None)
+    };
+    let Some((inport, rest)) = read_name(rest) else {
+        return Ok(None)
+    };
+    let from = Port {
+        actor: producer,
+        port: outport.copy(alloc)?,
+    };
+    let to = Port {
+        actor: consumer.copy(alloc)?,
+        port: inport.copy(alloc)?,
+    };
     Ok(Some((Statement::Join { from, to }, rest)))
 }
 
@@ -102,14 +151,20 @@ fn read_arguments(alloc: Global, words: &[Placed]) -> Result<Read<'_, Vec<Argume
     if let Some(rest) = read_mark(words, Mark::CloseParen) {
         return Ok(Some((args, rest)));
     }
-    let Some((first, mut rest)) = read_argument(alloc, words)? else { return Ok(None) };
+    let Some((first, mut rest)) = read_argument(alloc, words)? else {
+        return Ok(None)
+    };
     args.push(first)?;
     while let Some(after) = read_mark(rest, Mark::Comma) {
-        let Some((next, left)) = read_argument(alloc, after)? else { return Ok(None) };
+        let Some((next, left)) = read_argument(alloc, after)? else {
+            return Ok(None)
+        };
         args.push(next)?;
         rest = left;
     }
-    let Some(rest) = read_mark(rest, Mark::CloseParen) else { return Ok(None) };
+    let Some(rest) = read_mark(rest, Mark::CloseParen) else {
+        return Ok(None)
+    };
     Ok(Some((args, rest)))
 }
 
@@ -117,17 +172,35 @@ fn read_arguments(alloc: Global, words: &[Placed]) -> Result<Read<'_, Vec<Argume
 fn read_argument(alloc: Global, words: &[Placed]) -> Result<Read<'_, Argument>, OutOfMemory>
     ensures { IfOk result (λ read. IfSome read (λ r. length r.1.now < length words.now)) }
 {
-    let Some((name, rest)) = read_name(words) else { return Ok(None) };
-    let Some(rest) = read_mark(rest, Mark::Equals) else { return Ok(None) };
-    let Some((value, rest)) = read_int(rest) else { return Ok(None) };
-    Ok(Some((Argument { name: name.copy(alloc)?, value }, rest)))
+    let Some((name, rest)) = read_name(words) else {
+        return Ok(None)
+    };
+    let Some(rest) = read_mark(rest, Mark::Equals) else {
+        return Ok(None)
+    };
+    let Some((value, rest)) = read_int(rest) else {
+        return Ok(None)
+    };
+    Ok(Some((
+        Argument {
+            name: name.copy(alloc)?,
+            value,
+        },
+        rest,
+    )))
 }
 
 fn read_name(words: &[Placed]) -> Read<'_, &Text>
     ensures { IfSome result (λ r. length r.1.now < length words.now) }
 {
     match words {
-        [Placed { word: Word::Name(text), at: _ }, rest @ ..] => Some((text, rest)),
+        [
+            Placed {
+                word: Word::Name(text),
+                at: _,
+            },
+            rest @ ..,
+        ] => Some((text, rest)),
         _ => None,
     }
 }
@@ -136,7 +209,13 @@ fn read_int(words: &[Placed]) -> Read<'_, i64>
     ensures { IfSome result (λ r. length r.1.now < length words.now) }
 {
     match words {
-        [Placed { word: Word::Int(value), at: _ }, rest @ ..] => Some((*value, rest)),
+        [
+            Placed {
+                word: Word::Int(value),
+                at: _,
+            },
+            rest @ ..,
+        ] => Some((*value, rest)),
         _ => None,
     }
 }
@@ -145,7 +224,13 @@ fn read_mark(words: &[Placed], mark: Mark) -> Option<&[Placed]>
     ensures { IfSome result (λ rest. length rest.now < length words.now) }
 {
     match words {
-        [Placed { word: Word::Mark(found), at: _ }, rest @ ..] if *found == mark => Some(rest),
+        [
+            Placed {
+                word: Word::Mark(found),
+                at: _,
+            },
+            rest @ ..,
+        ] if *found == mark => Some(rest),
         _ => None,
     }
 }

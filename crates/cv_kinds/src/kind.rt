@@ -59,14 +59,22 @@ impl Kind {
     pub fn needs(self, _args: &Items, action: u8, port: u8) -> u16
         ensures { result ≡ needed self _args.now action port }
     {
-        if action == 0 && port < self.inports() { 1 } else { 0 }
+        if action == 0 && port < self.inports() {
+            1
+        } else {
+            0
+        }
     }
 
     /// How many tokens the action gives to an outport: none or one.
     pub fn gives(self, action: u8, port: u8) -> u16
         ensures { result ≡ given self action port }
     {
-        if action == 0 && port < self.outports() { 1 } else { 0 }
+        if action == 0 && port < self.outports() {
+            1
+        } else {
+            0
+        }
     }
 
     /// Whether the action's guard holds on the state.
@@ -80,20 +88,36 @@ impl Kind {
     }
 
     /// What the action does on the tokens that it needs, port by port.
-    pub fn effect(self, alloc: Global, args: &Items, state: &Items, _action: u8, heads: &Items) -> Result<Effect, OutOfMemory>
+    pub fn effect(
+        self,
+        alloc: Global,
+        args: &Items,
+        state: &Items,
+        _action: u8,
+        heads: &Items,
+    ) -> Result<Effect, OutOfMemory>
         ensures { IfOk result (λ e. e ≡ effect_of self args.now state.now _action heads.now) }
     {
         match self {
             Kind::Constant => {
                 let left = falling(alloc, state)?;
                 let data = copied(alloc, args, 0)?;
-                Ok(Effect { state: one_item(alloc, left)?, out: one_out(alloc, data)? })
+                Ok(Effect {
+                    state: one_item(alloc, left)?,
+                    out: one_out(alloc, data)?,
+                })
             }
             Kind::Identity => {
                 let token = copied(alloc, heads, 0)?;
-                Ok(Effect { state: Items::new(alloc), out: one_out(alloc, token)? })
+                Ok(Effect {
+                    state: Items::new(alloc),
+                    out: one_out(alloc, token)?,
+                })
             }
-            Kind::Print => Ok(Effect { state: Items::new(alloc), out: Outs::new(alloc) }),
+            Kind::Print => Ok(Effect {
+                state: Items::new(alloc),
+                out: Outs::new(alloc),
+            }),
         }
     }
 

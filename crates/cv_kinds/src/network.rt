@@ -53,7 +53,11 @@ impl ActorSpec {
     {
         let path = self.path.copy(alloc)?;
         let args = copy_items(alloc, &self.args)?;
-        Ok(ActorSpec { path, kind: self.kind, args })
+        Ok(ActorSpec {
+            path,
+            kind: self.kind,
+            args,
+        })
     }
 }
 
@@ -66,7 +70,10 @@ impl Network {
         ensures actors { result.actors ≡ actors.items }
         ensures connections { result.connections ≡ connections.items }
     {
-        Network { actors, connections }
+        Network {
+            actors,
+            connections,
+        }
     }
 
     /// The actors, in the order of their declarations.
@@ -91,7 +98,10 @@ impl Network {
     {
         let actors = copy_actors(alloc, self.actors.as_slice())?;
         let connections = Vec::from_slice(alloc, self.connections.as_slice())?;
-        Ok(Network { actors, connections })
+        Ok(Network {
+            actors,
+            connections,
+        })
     }
 }
 

@@ -54,7 +54,9 @@ impl Live {
         ensures err { OnErr result (self.new ≡ self.old) }
     {
         let heads = copied_heads(alloc, self.kind, &self.args, action, self.ins.as_slice())?;
-        let effect = self.kind.effect(alloc, &self.args, &self.slots, action, &heads)?;
+        let effect = self
+            .kind
+            .effect(alloc, &self.args, &self.slots, action, &heads)?;
         let Effect { state, out } = effect;
         self.slots = state;
         drop_heads(self.kind, &self.args, action, &mut self.ins);
@@ -65,14 +67,25 @@ impl Live {
 
 impl Live {
     /// An actor at the start, with an empty queue in each inport and in each outport that feeds something.
-    pub fn starting(alloc: Global, kind: Kind, args: Items, joined: &[bool]) -> Result<Live, OutOfMemory>
+    pub fn starting(
+        alloc: Global,
+        kind: Kind,
+        args: Items,
+        joined: &[bool],
+    ) -> Result<Live, OutOfMemory>
         requires { length joined.now ≡ outport_count kind }
         ensures { IfOk result (λ l. l ≡ starting kind args joined.now) }
     {
         let slots = kind.start(alloc, &args)?;
         let ins = empty_queues(alloc, kind.inports())?;
         let outs = empty_outlets(alloc, joined)?;
-        Ok(Live { kind, args, slots, ins, outs })
+        Ok(Live {
+            kind,
+            args,
+            slots,
+            ins,
+            outs,
+        })
     }
 
     /// Whether the outport holds a token that a connection may take.
@@ -140,7 +153,11 @@ fn empty_outlets(alloc: Global, joined: &[bool]) -> Result<Vec<Option<Queue>>, O
 {
     let mut outs = Vec::with_capacity(alloc, joined.len())?;
     for is_joined in joined {
-        let outlet = if *is_joined { Some(Queue::new(alloc)?) } else { None };
+        let outlet = if *is_joined {
+            Some(Queue::new(alloc)?)
+        } else {
+            None
+        };
         outs.push(outlet)?;
     }
     Ok(outs)
@@ -183,7 +200,13 @@ fn has_room(outlet: &Option<Queue>, more: u16) -> bool
 }
 
 /// Copies of the needed tokens, port by port.
-fn copied_heads(alloc: Global, kind: Kind, args: &Items, action: u8, ins: &[Queue]) -> Result<Items, OutOfMemory>
+fn copied_heads(
+    alloc: Global,
+    kind: Kind,
+    args: &Items,
+    action: u8,
+    ins: &[Queue],
+) -> Result<Items, OutOfMemory>
     requires few { length ins.now < 256 }
     requires counts { has_counts kind args.now action 0 ins.now ≡ true }
     ensures { IfOk result (λ heads. heads ≡ heads_of kind args.now action 0 ins.now) }
@@ -223,7 +246,11 @@ fn next_given(left: &mut Outs) -> Option<Token>
     ensures token { result ≡ first_given left.old }
     ensures rest { left.new ≡ drop 1 left.old }
 {
-    if left.is_empty() { None } else { left.remove(0) }
+    if left.is_empty() {
+        None
+    } else {
+        left.remove(0)
+    }
 }
 
 /// Adds the token that an outport is given; where it feeds nothing the token goes.

@@ -68,7 +68,10 @@ impl Node {
         self.deployed = true;
         self.connections = connections;
         self.actors = actors;
-        self.entries.push_reserved(Entry { stamp: self.stamp, event: Event::Deploy { name, net } });
+        self.entries.push_reserved(Entry {
+            stamp: self.stamp,
+            event: Event::Deploy { name, net },
+        });
         Ok(())
     }
 
@@ -101,7 +104,12 @@ impl Node {
             return Ok(false);
         }
         self.stamp += 1;
-        self.entries.push_reserved(Entry { stamp: self.stamp, event: Event::Pass { conn: connection(place) } });
+        self.entries.push_reserved(Entry {
+            stamp: self.stamp,
+            event: Event::Pass {
+                conn: connection(place),
+            },
+        });
         Ok(true)
     }
 
@@ -118,7 +126,13 @@ impl Node {
             return Ok(false);
         }
         self.stamp += 1;
-        self.entries.push_reserved(Entry { stamp: self.stamp, event: Event::Fire { actor: actor(place), action } });
+        self.entries.push_reserved(Entry {
+            stamp: self.stamp,
+            event: Event::Fire {
+                actor: actor(place),
+                action,
+            },
+        });
         Ok(true)
     }
 }
@@ -147,18 +161,28 @@ fn make_room(entries: &mut Vec<Entry>) -> Result<(), OutOfMemory>
 fn actor(place: u16) -> ActorId
     ensures { result ≡ actor_id place }
 {
-    ActorId { app: AppId { node: 1, seq: 1 }, actor: place }
+    ActorId {
+        app: AppId { node: 1, seq: 1 },
+        actor: place,
+    }
 }
 
 /// The identifier of a connection of the run's application.
 fn connection(place: u16) -> ConnId
     ensures { result ≡ conn_id place }
 {
-    ConnId { app: AppId { node: 1, seq: 1 }, place }
+    ConnId {
+        app: AppId { node: 1, seq: 1 },
+        place,
+    }
 }
 
 /// The actors of a network at the start.
-fn starting_actors(alloc: Global, joins: &[Join], specs: &[ActorSpec]) -> Result<Vec<Live>, OutOfMemory>
+fn starting_actors(
+    alloc: Global,
+    joins: &[Join],
+    specs: &[ActorSpec],
+) -> Result<Vec<Live>, OutOfMemory>
     ensures actors { IfOk result (λ actors. actors.items ≡ starting_from joins.now 0 specs.now) }
     ensures len { IfOk result (λ actors. vec_len actors ≡ length specs.now) }
 {
@@ -172,7 +196,12 @@ fn starting_actors(alloc: Global, joins: &[Join], specs: &[ActorSpec]) -> Result
 }
 
 /// Which of an actor's outports feed a connection.
-fn joined_outports(alloc: Global, joins: &[Join], place: usize, count: u8) -> Result<Vec<bool>, OutOfMemory>
+fn joined_outports(
+    alloc: Global,
+    joins: &[Join],
+    place: usize,
+    count: u8,
+) -> Result<Vec<bool>, OutOfMemory>
     ensures { IfOk result (λ joined. joined.items ≡ joined_from joins.now place 0 count) }
 {
     let mut joined = Vec::with_capacity(alloc, count as usize)?;
@@ -186,11 +215,18 @@ fn joined_outports(alloc: Global, joins: &[Join], place: usize, count: u8) -> Re
 fn feeds(joins: &[Join], place: usize, port: u8) -> bool
     ensures { result ≡ is_joined joins.now place port }
 {
-    joins.iter().any(|join| join.from as usize == place && join.out == port)
+    joins
+        .iter()
+        .any(|join| join.from as usize == place && join.out == port)
 }
 
 /// Fires an action of the actor at that place where it can fire, and tells whether it did.
-fn fire_actor(alloc: Global, actors: &mut Vec<Live>, place: u16, action: u8) -> Result<bool, OutOfMemory>
+fn fire_actor(
+    alloc: Global,
+    actors: &mut Vec<Live>,
+    place: u16,
+    action: u8,
+) -> Result<bool, OutOfMemory>
     ensures ok { IfOk result (λ did. Becomes (fire_at actors.old.items place action) did actors.old.items actors.new.items) }
     ensures err { OnErr result (actors.new.items ≡ actors.old.items) }
     ensures len { vec_len actors.new ≡ vec_len actors.old }
@@ -207,7 +243,9 @@ fn move_token(connections: &[Join], actors: &mut Vec<Live>, place: u16) -> bool
     ensures becomes { Becomes (pass_at connections.now actors.old.items place) result actors.old.items actors.new.items }
     ensures len { vec_len actors.new ≡ vec_len actors.old }
 {
-    let Some(join) = connections.get(place as usize) else { return false };
+    let Some(join) = connections.get(place as usize) else {
+        return false
+    };
     if !has_token(actors.as_slice(), join) || !has_room(actors.as_slice(), join) {
         return false;
     }

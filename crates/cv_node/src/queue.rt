@@ -75,7 +75,12 @@ impl Queue {
     }
 
     /// Adds copies of the oldest `count` tokens to the end of `heads`.
-    pub fn copy_first(&self, alloc: Global, count: u16, heads: &mut Items) -> Result<(), OutOfMemory>
+    pub fn copy_first(
+        &self,
+        alloc: Global,
+        count: u16,
+        heads: &mut Items,
+    ) -> Result<(), OutOfMemory>
         requires { count ≤ length self.now }
         ensures { OnOk result (heads.new ≡ heads.old ++ take count self.now) }
     {

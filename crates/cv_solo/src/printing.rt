@@ -31,11 +31,20 @@ fn taken_of(stream: &Stream) -> &[Token]
     ensures { result.now ≡ take stream.now.took stream.now.wrote }
 {
     let wrote = stream.wrote.as_slice();
-    if stream.took < wrote.len() as u64 { first_of(wrote, stream.took as usize) } else { wrote }
+    if stream.took < wrote.len() as u64 {
+        first_of(wrote, stream.took as usize)
+    } else {
+        wrote
+    }
 }
 
 /// Adds a line for each token.
-fn push_lines(alloc: Global, lines: &mut String, path: &str, tokens: &[Token]) -> Result<(), OutOfMemory>
+fn push_lines(
+    alloc: Global,
+    lines: &mut String,
+    path: &str,
+    tokens: &[Token],
+) -> Result<(), OutOfMemory>
     ensures { OnOk result (string_bytes lines.new ≡ string_bytes lines.old ++ print_lines path.now tokens.now) }
 {
     for token in tokens {
@@ -45,7 +54,12 @@ fn push_lines(alloc: Global, lines: &mut String, path: &str, tokens: &[Token]) -
 }
 
 /// Adds the line of a token.
-fn push_line(alloc: Global, lines: &mut String, path: &str, token: &Token) -> Result<(), OutOfMemory>
+fn push_line(
+    alloc: Global,
+    lines: &mut String,
+    path: &str,
+    token: &Token,
+) -> Result<(), OutOfMemory>
     ensures { OnOk result (string_bytes lines.new ≡ string_bytes lines.old ++ print_line path.now token.now) }
 {
     let spelled = text(alloc, token)?;

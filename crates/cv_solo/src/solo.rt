@@ -60,7 +60,11 @@ impl Solo {
     {
         let slots = starting_slots(alloc, net.actors())?;
         let streams = empty_streams(alloc, net.connections().len())?;
-        Ok(Solo { net: net.copy(alloc)?, slots, streams })
+        Ok(Solo {
+            net: net.copy(alloc)?,
+            slots,
+            streams,
+        })
     }
 
     /// Fires an action of an actor. Neither space nor priority nor time is looked at. After want of memory the
@@ -70,8 +74,18 @@ impl Solo {
         ensures fired { OnOk result (fire self.old.net self.old.runtime actor action ≡ Some self.new.runtime) }
         ensures not_enabled { result ≡ Err SoloFault.NotEnabled → fire self.old.net self.old.runtime actor action ≡ None }
     {
-        let Some(spec) = self.net.actors().get(actor as usize) else { return Err(SoloFault::NotEnabled) };
-        fire_one(alloc, spec, self.net.connections(), &mut self.slots[actor as usize], &mut self.streams, actor, action)
+        let Some(spec) = self.net.actors().get(actor as usize) else {
+            return Err(SoloFault::NotEnabled)
+        };
+        fire_one(
+            alloc,
+            spec,
+            self.net.connections(),
+            &mut self.slots[actor as usize],
+            &mut self.streams,
+            actor,
+            action,
+        )
     }
 }
 
@@ -92,7 +106,15 @@ impl Solo {
 }
 
 /// Fires an action of an actor with these slots.
-fn fire_one(alloc: Global, spec: &ActorSpec, joins: &[Join], slots: &mut Items, streams: &mut Vec<Stream>, actor: u16, action: u8) -> Result<(), SoloFault>
+fn fire_one(
+    alloc: Global,
+    spec: &ActorSpec,
+    joins: &[Join],
+    slots: &mut Items,
+    streams: &mut Vec<Stream>,
+    actor: u16,
+    action: u8,
+) -> Result<(), SoloFault>
     requires { length joins.now ≡ vec_len streams.old }
     ensures len { vec_len streams.new ≡ vec_len streams.old }
     ensures fired { OnOk result (FiresOne spec.now joins.now actor action slots.old streams.old.items slots.new streams.new.items) }
@@ -109,26 +131,59 @@ fn fire_one(alloc: Global, spec: &ActorSpec, joins: &[Join], slots: &mut Items, 
 }
 
 /// Whether the action is ready on the slots and on what waits at the inports.
-fn is_ready(spec: &ActorSpec, joins: &[Join], streams: &[Stream], slots: &Items, actor: u16, action: u8) -> bool
+fn is_ready(
+    spec: &ActorSpec,
+    joins: &[Join],
+    streams: &[Stream],
+    slots: &Items,
+    actor: u16,
+    action: u8,
+) -> bool
     ensures { result ≡ ready_of spec.now joins.now actor action slots.now streams.now }
 {
-    action < spec.kind.actions() && has_counts(spec, joins, streams, actor, action) && spec.kind.guard(&spec.args, slots, action)
+    action < spec.kind.actions()
+        && has_counts(spec, joins, streams, actor, action)
+        && spec.kind.guard(&spec.args, slots, action)
 }
 
 /// What a firing writes to each connection and takes from it.
-fn advance_all(alloc: Global, spec: &ActorSpec, actor: u16, action: u8, out: &Outs, joins: &[Join], streams: &mut Vec<Stream>) -> Result<(), OutOfMemory>
+fn advance_all(
+    alloc: Global,
+    spec: &ActorSpec,
+    actor: u16,
+    action: u8,
+    out: &Outs,
+    joins: &[Join],
+    streams: &mut Vec<Stream>,
+) -> Result<(), OutOfMemory>
     requires { length joins.now ≡ vec_len streams.old }
     ensures len { vec_len streams.new ≡ vec_len streams.old }
     ensures after { OnOk result (streams.new.items ≡ streams_after spec.now actor action out.now joins.now streams.old.items) }
 {
     for place in 0..joins.len() {
-        advance(alloc, spec, actor, action, out, &joins[place], &mut streams[place])?;
+        advance(
+            alloc,
+            spec,
+            actor,
+            action,
+            out,
+            &joins[place],
+            &mut streams[place],
+        )?;
     }
     Ok(())
 }
 
 /// What a firing writes to a connection and takes from it.
-fn advance(alloc: Global, spec: &ActorSpec, actor: u16, action: u8, out: &Outs, join: &Join, stream: &mut Stream) -> Result<(), OutOfMemory>
+fn advance(
+    alloc: Global,
+    spec: &ActorSpec,
+    actor: u16,
+    action: u8,
+    out: &Outs,
+    join: &Join,
+    stream: &mut Stream,
+) -> Result<(), OutOfMemory>
     ensures { OnOk result (stream.new ≡ stream_after spec.now actor action out.now join.now stream.old) }
 {
     let taken = taken_from(spec, actor, action, join, stream);
@@ -171,7 +226,10 @@ fn empty_streams(alloc: Global, count: usize) -> Result<Vec<Stream>, OutOfMemory
 {
     let mut streams = Vec::with_capacity(alloc, count)?;
     for _ in 0..count {
-        streams.push(Stream { wrote: Items::new(alloc), took: 0 })?;
+        streams.push(Stream {
+            wrote: Items::new(alloc),
+            took: 0,
+        })?;
     }
     Ok(streams)
 }
@@ -205,7 +263,11 @@ fn left_of(stream: &Stream) -> &[Token]
     ensures { result.now ≡ drop stream.now.took stream.now.wrote }
 {
     let wrote = stream.wrote.as_slice();
-    if stream.took < wrote.len() as u64 { wrote.split_at(stream.took as usize).1 } else { &[] }
+    if stream.took < wrote.len() as u64 {
+        wrote.split_at(stream.took as usize).1
+    } else {
+        &[]
+    }
 }
 
 /// Whether each needed inport has its count.
@@ -224,19 +286,36 @@ fn has_counts(spec: &ActorSpec, joins: &[Join], streams: &[Stream], actor: u16, 
 
 /// Copies of the needed tokens, port by port.
 #[tactic(auto, using(crate::proofs::Inputs::inputs_next))]
-fn copied_heads(alloc: Global, spec: &ActorSpec, joins: &[Join], streams: &[Stream], actor: u16, action: u8) -> Result<Items, OutOfMemory>
+fn copied_heads(
+    alloc: Global,
+    spec: &ActorSpec,
+    joins: &[Join],
+    streams: &[Stream],
+    actor: u16,
+    action: u8,
+) -> Result<Items, OutOfMemory>
     ensures { IfOk result (λ heads. heads ≡ heads_of spec.now.kind spec.now.args action 0 (inputs_from joins.now streams.now actor 0 (inport_count spec.now.kind))) }
 {
     let mut heads = Items::new(alloc);
     for port in 0..spec.kind.inports() {
         let needed = spec.kind.needs(&spec.args, action, port);
-        copy_first(alloc, waiting(joins, streams, actor, port), needed, &mut heads)?;
+        copy_first(
+            alloc,
+            waiting(joins, streams, actor, port),
+            needed,
+            &mut heads,
+        )?;
     }
     Ok(heads)
 }
 
 /// Adds copies of the first `count` tokens, or of all where there are fewer, to the end of `heads`.
-fn copy_first(alloc: Global, tokens: &[Token], count: u16, heads: &mut Items) -> Result<(), OutOfMemory>
+fn copy_first(
+    alloc: Global,
+    tokens: &[Token],
+    count: u16,
+    heads: &mut Items,
+) -> Result<(), OutOfMemory>
     ensures { OnOk result (heads.new ≡ heads.old ++ take count tokens.now) }
 {
     for token in first_of(tokens, count as usize) {
@@ -249,5 +328,9 @@ fn copy_first(alloc: Global, tokens: &[Token], count: u16, heads: &mut Items) ->
 pub(crate) fn first_of(tokens: &[Token], count: usize) -> &[Token]
     ensures { result.now ≡ take count tokens.now }
 {
-    if count < tokens.len() { tokens.split_at(count).0 } else { tokens }
+    if count < tokens.len() {
+        tokens.split_at(count).0
+    } else {
+        tokens
+    }
 }

@@ -78,7 +78,11 @@ impl End {
         match self {
             End::Spent | End::Quiescent => 0,
             End::Usage => 2,
-            End::Script { line: _, col: _, code: _ } => 3,
+            End::Script {
+                line: _,
+                col: _,
+                code: _,
+            } => 3,
             End::ReadFault => 4,
             End::WriteFault => 5,
             End::OutOfMemory => 6,

@@ -39,17 +39,29 @@ fn record_of(alloc: Global, entries: Vec<Entry>) -> Result<Record, OutOfMemory> 
     let mut steps = Steps::new(alloc);
     for entry in entries {
         let Entry { stamp, event } = entry;
-        steps.push(Step { stamp, node: 1, event })?;
+        steps.push(Step {
+            stamp,
+            node: 1,
+            event,
+        })?;
     }
     let mut specs = NodeSpecs::new(alloc);
     specs.push(node_spec(alloc)?)?;
-    Ok(Record { specs, entries: steps })
+    Ok(Record {
+        specs,
+        entries: steps,
+    })
 }
 
 /// The specification of node 1.
 fn node_spec(alloc: Global) -> Result<NodeSpec, OutOfMemory> {
     let attrs = Attrs::new(alloc);
-    Ok(NodeSpec { no: 1, room: 1024, window: 1, attrs })
+    Ok(NodeSpec {
+        no: 1,
+        room: 1024,
+        window: 1,
+        attrs,
+    })
 }
 
 /// The text of a run: the lines of its prints, the number of its firings, and its end.
@@ -63,13 +75,26 @@ fn printed(alloc: Global, net: &Network, steps: &[Step], end: End) -> Result<Str
     let firings = firing_count(steps);
     let prints = solo.print(alloc)?;
     let lines = prints.as_str();
-    let last = if end == End::Spent { "spent" } else { "quiescent" };
+    let last = if end == End::Spent {
+        "spent"
+    } else {
+        "quiescent"
+    };
     format!(in alloc; "{lines}firings {firings}\nend {last}\n")
 }
 
 /// How many firings the steps have.
 fn firing_count(steps: &[Step]) -> usize {
-    steps.iter().filter(|step| matches!(&step.event, Event::Fire { actor: _, action: _ })).count()
+    steps
+        .iter()
+        .filter(|step| matches!(
+            &step.event,
+            Event::Fire {
+                actor: _,
+                action: _
+            }
+        ))
+        .count()
 }
 
 /// Fires one recorded action.

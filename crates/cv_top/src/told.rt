@@ -23,7 +23,9 @@ pub fn write_refusal<K: Sink>(alloc: Global, sink: &mut K, refusal: Refusal) -> 
         Refusal::ReadFault => write_line(sink, "read\n", End::ReadFault),
         Refusal::TooLong => write_line(sink, "long\n", End::TooLong),
         Refusal::OutOfMemory => write_line(sink, "memory\n", End::OutOfMemory),
-        Refusal::Script { line, col, code } => match format!(in alloc; "script {line}:{col} {code}\n") {
+        Refusal::Script { line, col, code } => match format!(in alloc;
+            "script {line}:{col} {code}\n"
+        ) {
             Ok(text) => write_line(sink, text.as_str(), End::Script { line, col, code }),
             Err(_) => write_line(sink, "memory\n", End::OutOfMemory),
         },

@@ -22,7 +22,14 @@ pub const SCRIPT_LIMIT: usize = 1 << 20;
 /// Does what the words ask for: reads a script from the source, runs it, and writes its text to the sink. The order is
 /// words, reading, length, script, run, writing. The runtime and the gate are for runs of several nodes, which are not
 /// built yet.
-pub fn calvin<R: Threads + Sync, S: Source, K: Sink, G: Gate>(_rt: &R, alloc: Global, words: &[String], source: &mut S, sink: &mut K, _gate: &G) -> Outcome
+pub fn calvin<R: Threads + Sync, S: Source, K: Sink, G: Gate>(
+    _rt: &R,
+    alloc: Global,
+    words: &[String],
+    source: &mut S,
+    sink: &mut K,
+    _gate: &G,
+) -> Outcome
     // Usage comes exactly where the words are not of the form; only a sink that fails replaces it.
     ensures usage { result.end ≡ End.Usage → run_words (map string_bytes words.now) ≡ None }
     ensures usage_always { run_words (map string_bytes words.now) ≡ None → (result.end ≡ End.Usage) ⊎ (result.end ≡ End.WriteFault) }
@@ -39,12 +46,25 @@ pub fn calvin<R: Threads + Sync, S: Source, K: Sink, G: Gate>(_rt: &R, alloc: Gl
         Ok(done) => {
             let Run { end, record, text } = done;
             let end = write_line(sink, text.as_str(), end);
-            Outcome { status: end.status(), end, merged: record, cuts: Vec::new(alloc) }
+            Outcome {
+                status: end.status(),
+                end,
+                merged: record,
+                cuts: Vec::new(alloc),
+            }
         }
         Err(refusal) => {
             let end = write_refusal(alloc, sink, refusal);
-            let merged = Record { specs: NodeSpecs::new(alloc), entries: Steps::new(alloc) };
-            Outcome { status: end.status(), end, merged, cuts: Vec::new(alloc) }
+            let merged = Record {
+                specs: NodeSpecs::new(alloc),
+                entries: Steps::new(alloc),
+            };
+            Outcome {
+                status: end.status(),
+                end,
+                merged,
+                cuts: Vec::new(alloc),
+            }
         }
     }
 }
@@ -56,7 +76,9 @@ fn decided<S: Source>(alloc: Global, words: &[String], source: &mut S) -> Result
     ensures read_fault { result ≡ Err Refusal.ReadFault → Rose (S.faults source.old) (S.faults source.new) }
     ensures ran { IfOk result (λ run. IsRunEnd run.end) }
 {
-    let Some(most) = read_words(words) else { return Err(Refusal::Usage) };
+    let Some(most) = read_words(words) else {
+        return Err(Refusal::Usage)
+    };
     let bytes = match read_all(alloc, source, SCRIPT_LIMIT) {
         Ok(bytes) => bytes,
         Err(ReadAll::ReadFault) => return Err(Refusal::ReadFault),
@@ -65,7 +87,11 @@ fn decided<S: Source>(alloc: Global, words: &[String], source: &mut S) -> Result
     };
     let net = match compile(alloc, bytes.as_slice()) {
         Ok(net) => net,
-        Err(NoNetwork::Script(Fault { line, col, code })) => return Err(Refusal::Script { line, col, code }),
+        Err(NoNetwork::Script(Fault { line, col, code })) => return Err(Refusal::Script {
+            line,
+            col,
+            code,
+        }),
         Err(NoNetwork::OutOfMemory) => return Err(Refusal::OutOfMemory),
     };
     run_network(alloc, net, most).map_err(|_| Refusal::OutOfMemory)

@@ -15,7 +15,11 @@ pub fn read_words(words: &[String]) -> Option<u32>
     ensures { result ≡ run_words (map string_bytes words.now) }
 {
     match words {
-        [command] => if command.as_str() == "run" { Some(DEFAULT_FIRINGS) } else { None },
+        [command] => if command.as_str() == "run" {
+            Some(DEFAULT_FIRINGS)
+        } else {
+            None
+        },
         [command, option, value] => {
             if command.as_str() == "run" && option.as_str() == "--firings" {
                 read_firings(value.as_bytes())
@@ -35,7 +39,11 @@ fn read_firings(word: &[u8]) -> Option<u32>
         return None;
     }
     let number = number_of(word);
-    if number <= MOST_FIRINGS { Some(number) } else { None }
+    if number <= MOST_FIRINGS {
+        Some(number)
+    } else {
+        None
+    }
 }
 
 /// Whether a word is 1 to 9 digits.
