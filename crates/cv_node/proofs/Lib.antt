@@ -1,3 +1,4 @@
 pub mod Firing
 pub mod Replays
+pub mod Recordings
 pub mod RunSteps

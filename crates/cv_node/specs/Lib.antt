@@ -1,5 +1,6 @@
 pub mod Journal
 pub mod LiveState
 pub mod NodeRow
+pub mod Recorded
 pub mod Room
 pub mod Runs

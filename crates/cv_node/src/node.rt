@@ -1,7 +1,7 @@
 //! A node with one application: its live actors, and the journal of what happened to them.
 
 ghost use Rattle.std.specs.Prelude.{◌≡◌, ◌<◌, ◌≤◌, ◌+◌, ◌^◌, [], ◌∷◌, ◌++◌, None, Some, length, slice_get, is_some, vec_len, vec_capacity, MatchBool, IfOk, OnOk, OnErr, Ok, false};
-ghost use Rattle.cv_node.specs.NodeRow.{opening, pass_at, fire_at, token_for, room_for, is_joined, joined_from, starting_from};
+ghost use Rattle.cv_node.specs.NodeRow.{opening, replay, pass_at, fire_at, token_for, room_for, is_joined, joined_from, starting_from};
 ghost use Rattle.cv_node.specs.Journal.{Journalled, Steps, Becomes, actor_id, conn_id};
 
 use crate::event::{Entry, Event};
@@ -140,7 +140,8 @@ impl Node {
 impl Node {
     /// The journal: the entries in their order.
     pub fn into_entries(self) -> Vec<Entry>
-        ensures { result.items ≡ self.entries }
+        ensures entries { result.items ≡ self.entries }
+        ensures replays { replay opening self.entries ≡ Some self.state }
     {
         self.entries
     }

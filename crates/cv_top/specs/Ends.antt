@@ -1,5 +1,7 @@
 -- The status of each end, and the end of each refusal.
 use Rattle.std.specs.Prelude.{◌≡◌, ◌⊎◌, ℕ}
+use Rattle.cv_node.specs.declared.run.Stop.{Stop}
+use Rattle.cv_node.specs.declared.run.Stop.TheVariants as stop
 use Rattle.cv_top.specs.declared.end.End.{End}
 use Rattle.cv_top.specs.declared.end.End.TheVariants as end
 use Rattle.cv_top.specs.declared.end.Refusal.{Refusal}
@@ -31,6 +33,7 @@ EndsAs refusal.ReadFault e = (e ≡ end.ReadFault) ⊎ (e ≡ end.WriteFault)
 EndsAs refusal.OutOfMemory e = (e ≡ end.OutOfMemory) ⊎ (e ≡ end.WriteFault)
 EndsAs refusal.TooLong e = (e ≡ end.TooLong) ⊎ (e ≡ end.WriteFault)
 
--- the ends of a run
-abbrev pub IsRunEnd : End → Type 0
-IsRunEnd e = (e ≡ end.Spent) ⊎ (e ≡ end.Quiescent)
+-- the end of a run that stopped so
+abbrev pub end_at : Stop → End
+end_at stop.Spent = end.Spent
+end_at stop.Quiescent = end.Quiescent

@@ -1,10 +1,11 @@
 //! How a call ends, with its status and its text.
 
-ghost use Rattle.std.specs.Prelude.{◌≡◌};
-ghost use Rattle.cv_top.specs.Ends.{status_of, end_of};
+ghost use Rattle.std.specs.Prelude.{◌≡◌, [], vec_len};
+ghost use Rattle.cv_top.specs.Ends.{status_of, end_of, end_at};
 
 use cv_deploy::Code;
-use cv_node::Record;
+use cv_node::{NodeSpecs, Record, Steps, Stop};
+use std::alloc::Global;
 
 /// How a call ends.
 #[derive(Debug, Clone, Copy, PartialEq, Eq)]
@@ -68,6 +69,47 @@ pub struct Outcome {
     pub end: End,
     pub merged: Record,
     pub cuts: Vec<Cut>,
+}
+
+impl Outcome {
+    /// The outcome of a run whose text was written.
+    pub fn of_run(alloc: Global, stop: Stop, merged: Record) -> Outcome
+        ensures end { result.end ≡ end_at stop }
+        ensures merged { result.merged ≡ merged }
+        ensures status { result.status ≡ status_of result.end }
+        ensures cuts { vec_len result.cuts ≡ 0 }
+    {
+        let end = match stop {
+            Stop::Spent => End::Spent,
+            Stop::Quiescent => End::Quiescent,
+        };
+        Outcome {
+            status: end.status(),
+            end,
+            merged,
+            cuts: Vec::new(alloc),
+        }
+    }
+
+    /// The outcome of a call that left no run.
+    pub fn of_none(alloc: Global, end: End) -> Outcome
+        ensures end { result.end ≡ end }
+        ensures entries { result.merged.entries ≡ [] }
+        ensures specs { result.merged.specs ≡ [] }
+        ensures status { result.status ≡ status_of result.end }
+        ensures cuts { vec_len result.cuts ≡ 0 }
+    {
+        let merged = Record {
+            specs: NodeSpecs::new(alloc),
+            entries: Steps::new(alloc),
+        };
+        Outcome {
+            status: end.status(),
+            end,
+            merged,
+            cuts: Vec::new(alloc),
+        }
+    }
 }
 
 impl End {

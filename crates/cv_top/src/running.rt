@@ -1,71 +1,38 @@
 //! A run of a network on one node: its record, and what its prints have printed.
 
 ghost use Rattle.std.specs.Prelude.{IfOk};
-ghost use Rattle.cv_top.specs.Ends.{IsRunEnd};
+ghost use Rattle.cv_node.specs.Recorded.{IsOneNodeRun};
 
-use crate::end::End;
 use cv_kinds::Network;
-use cv_node::{Attrs, Entry, Event, Node, NodeSpec, NodeSpecs, Record, Step, Steps, Stop};
+use cv_node::{Event, Record, Step, Stop, run_alone};
 use cv_solo::{Solo, SoloFault};
-use cv_token::{OutOfMemory, PairsOf, Text};
+use cv_token::OutOfMemory;
 use std::alloc::{AllocError, Global};
 
-/// What a run leaves: its end, its record, and its text.
+/// What a run leaves: how it stopped, its record, and its text.
 #[derive(Drop)]
 pub struct Run {
-    pub end: End,
-    pub record: Record,
+    pub stop: Stop,
+    pub merged: Record,
     pub text: String,
 }
 
 /// Runs a network on one node, with so many firings at most.
 pub fn run_network(alloc: Global, net: Network, most: u32) -> Result<Run, OutOfMemory>
-    ensures { IfOk result (λ run. IsRunEnd run.end) }
+    ensures { IfOk result (λ run. IsOneNodeRun net most run.stop run.merged) }
 {
-    let mut node = Node::new(alloc);
-    let name = Text::from_string(String::from_str(alloc, "run")?);
-    node.deploy(alloc, name, net.copy(alloc)?)?;
-    let end = match node.run(alloc, most)? {
-        Stop::Spent => End::Spent,
-        Stop::Quiescent => End::Quiescent,
-    };
-    let record = record_of(alloc, node.into_entries())?;
-    let text = printed(alloc, &net, record.entries.as_slice(), end)?;
-    Ok(Run { end, record, text })
-}
-
-/// The record of the one node's journal.
-fn record_of(alloc: Global, entries: Vec<Entry>) -> Result<Record, OutOfMemory> {
-    let mut steps = Steps::new(alloc);
-    for entry in entries {
-        let Entry { stamp, event } = entry;
-        steps.push(Step {
-            stamp,
-            node: 1,
-            event,
-        })?;
-    }
-    let mut specs = NodeSpecs::new(alloc);
-    specs.push(node_spec(alloc)?)?;
-    Ok(Record {
-        specs,
-        entries: steps,
-    })
-}
-
-/// The specification of node 1.
-fn node_spec(alloc: Global) -> Result<NodeSpec, OutOfMemory> {
-    let attrs = Attrs::new(alloc);
-    Ok(NodeSpec {
-        no: 1,
-        room: 1024,
-        window: 1,
-        attrs,
-    })
+    let (stop, merged) = run_alone(alloc, net.copy(alloc)?, most)?;
+    let text = printed(alloc, &net, merged.entries.as_slice(), stop)?;
+    Ok(Run { stop, merged, text })
 }
 
 /// The text of a run: the lines of its prints, the number of its firings, and its end.
-fn printed(alloc: Global, net: &Network, steps: &[Step], end: End) -> Result<String, OutOfMemory> {
+fn printed(
+    alloc: Global,
+    net: &Network,
+    steps: &[Step],
+    stop: Stop,
+) -> Result<String, OutOfMemory> {
     let mut solo = Solo::new(alloc, net)?;
     for step in steps {
         if let Event::Fire { actor, action } = &step.event {
@@ -75,10 +42,9 @@ fn printed(alloc: Global, net: &Network, steps: &[Step], end: End) -> Result<Str
     let firings = firing_count(steps);
     let prints = solo.print(alloc)?;
     let lines = prints.as_str();
-    let last = if end == End::Spent {
-        "spent"
-    } else {
-        "quiescent"
+    let last = match stop {
+        Stop::Spent => "spent",
+        Stop::Quiescent => "quiescent",
     };
     format!(in alloc; "{lines}firings {firings}\nend {last}\n")
 }

@@ -1,18 +1,18 @@
 //! `calvin`: the call that the program makes.
 
-ghost use Rattle.std.specs.Prelude.{◌≡◌, ◌⊎◌, ◌↔◌, map, string_bytes, None, Err, IfOk, MatchResult};
+ghost use Rattle.std.specs.Prelude.{◌≡◌, ◌⊎◌, ◌↔◌, map, string_bytes, vec_len, None, Err, IfOk, MatchResult};
 ghost use Rattle.cv_io.specs.Faults.{Rose};
 ghost use Rattle.cv_top.specs.Words.{run_words};
 ghost use Rattle.cv_top.specs.Causes.{TakenFrom, WrittenTo};
-ghost use Rattle.cv_top.specs.Ends.{status_of, end_of, IsRunEnd};
+ghost use Rattle.cv_top.specs.Ran.{HasRecord, IsRecordOf, MatchEnd};
+ghost use Rattle.cv_top.specs.Ends.{status_of, end_of, end_at};
 
 use crate::end::{End, Outcome, Refusal};
 use crate::running::{Run, run_network};
-use crate::told::{write_line, write_refusal};
+use crate::told::write_refusal;
 use crate::words::read_words;
 use cv_deploy::{Fault, NoNetwork, compile};
-use cv_io::{Gate, ReadAll, Sink, Source, read_all};
-use cv_node::{NodeSpecs, Record, Steps};
+use cv_io::{Gate, ReadAll, Sink, Source, read_all, write_all};
 use std::alloc::Global;
 use std::thread::Threads;
 
@@ -41,40 +41,39 @@ pub fn calvin<R: Threads + Sync, S: Source, K: Sink, G: Gate>(
     ensures write_fault { result.end ≡ End.WriteFault → Rose (K.faults sink.old) (K.faults sink.new) }
     ensures written { WrittenTo (K.written sink.old) (K.written sink.new) result.end }
     ensures status { result.status ≡ status_of result.end }
+
+    // The record is that of the run, of node 1 alone, which ended rightly; at all other ends it is empty.
+    ensures merged { HasRecord (map string_bytes words.now) result.end result.merged }
+    ensures cuts { vec_len result.cuts ≡ 0 }
 {
     match decided(alloc, words, source) {
-        Ok(done) => {
-            let Run { end, record, text } = done;
-            let end = write_line(sink, text.as_str(), end);
-            Outcome {
-                status: end.status(),
-                end,
-                merged: record,
-                cuts: Vec::new(alloc),
-            }
-        }
-        Err(refusal) => {
-            let end = write_refusal(alloc, sink, refusal);
-            let merged = Record {
-                specs: NodeSpecs::new(alloc),
-                entries: Steps::new(alloc),
-            };
-            Outcome {
-                status: end.status(),
-                end,
-                merged,
-                cuts: Vec::new(alloc),
-            }
-        }
+        Ok(run) => finished(alloc, sink, run),
+        Err(refusal) => Outcome::of_none(alloc, write_refusal(alloc, sink, refusal)),
+    }
+}
+
+/// Writes the text of a run.
+fn finished<K: Sink>(alloc: Global, sink: &mut K, run: Run) -> Outcome
+    ensures ends { (result.end ≡ end_at run.stop) ⊎ (result.end ≡ End.WriteFault) }
+    ensures merged { MatchEnd run.stop run.merged result.end result.merged }
+    ensures write_fault { result.end ≡ End.WriteFault → Rose (K.faults sink.old) (K.faults sink.new) }
+    ensures written { WrittenTo (K.written sink.old) (K.written sink.new) result.end }
+    ensures status { result.status ≡ status_of result.end }
+    ensures cuts { vec_len result.cuts ≡ 0 }
+{
+    let Run { stop, merged, text } = run;
+    match write_all(sink, text.as_bytes()) {
+        Ok(()) => Outcome::of_run(alloc, stop, merged),
+        Err(_) => Outcome::of_none(alloc, End::WriteFault),
     }
 }
 
 /// Reads the words and the source, and runs the script.
 fn decided<S: Source>(alloc: Global, words: &[String], source: &mut S) -> Result<Run, Refusal>
     ensures usage { (result ≡ Err Refusal.Usage) ↔ (run_words (map string_bytes words.now) ≡ None) }
-    ensures taken { MatchResult result (λ run. TakenFrom 1048576 (S.left source.old) (S.left source.new) run.end) (λ r. TakenFrom 1048576 (S.left source.old) (S.left source.new) (end_of r)) }
+    ensures taken { MatchResult result (λ run. TakenFrom 1048576 (S.left source.old) (S.left source.new) (end_at run.stop)) (λ r. TakenFrom 1048576 (S.left source.old) (S.left source.new) (end_of r)) }
     ensures read_fault { result ≡ Err Refusal.ReadFault → Rose (S.faults source.old) (S.faults source.new) }
-    ensures ran { IfOk result (λ run. IsRunEnd run.end) }
+    ensures ran { IfOk result (λ run. IsRecordOf (map string_bytes words.now) run.stop run.merged) }
 {
     let Some(most) = read_words(words) else {
         return Err(Refusal::Usage)
