@@ -1,6 +1,7 @@
 //! `compile`: from bytes to a network.
 
-ghost use Rattle.std.specs.Prelude.{◌≤◌, ◌^◌, length};
+ghost use Rattle.std.specs.Prelude.{◌≤◌, ◌^◌, length, IfOk, IfSome};
+ghost use Rattle.cv_kinds.specs.Wired.{IsWired};
 
 use crate::declared::{Declared, read_actors};
 use crate::fault::{Code, Fault, NoNetwork};
@@ -21,6 +22,7 @@ const UNBUILT: NoNetwork = NoNetwork::Script(Fault {
 /// The network that the bytes of a script stand for. Bytes of any other form have one fault, at 1:1.
 pub fn compile(alloc: Global, bytes: &[u8]) -> Result<Network, NoNetwork>
     requires { length bytes.now ≤ 2 ^ 31 }
+    ensures wired { IfOk result IsWired }
 {
     let Ok(source) = std::str::from_utf8(bytes) else {
         return Err(UNBUILT)
@@ -41,14 +43,16 @@ pub fn compile(alloc: Global, bytes: &[u8]) -> Result<Network, NoNetwork>
 }
 
 /// The network of the statements; None where they are not of the form that is built.
-fn network_of(alloc: Global, statements: &[Statement]) -> Result<Option<Network>, OutOfMemory> {
+fn network_of(alloc: Global, statements: &[Statement]) -> Result<Option<Network>, OutOfMemory>
+    ensures { IfOk result (λ found. IfSome found IsWired) }
+{
     let Some(found) = read_actors(alloc, statements)? else {
         return Ok(None)
     };
     let Some(joins) = read_joins(alloc, statements, &found)? else {
         return Ok(None)
     };
-    let Some(connections) = arranged(found.actors.as_slice(), joins)? else {
+    let Some(connections) = arranged(alloc, found.actors.as_slice(), joins)? else {
         return Ok(None)
     };
     let Declared { actors, places: _ } = found;

@@ -1,12 +1,15 @@
 //! The connections that a script joins.
 
-ghost use Rattle.std.specs.Prelude.{◌≤◌, vec_len, length, IfOk, IfSome};
+ghost use Rattle.std.specs.Prelude.{◌≡◌, ◌≤◌, map, vec_len, true, All, IfOk, IfSome};
+ghost use Rattle.cv_kinds.specs.Wired.{Joins};
+ghost use Rattle.cv_deploy.specs.Keys.{consumer_key, producer_key, AreDistinct};
 
 use crate::declared::Declared;
 use crate::script::{Port, Statement};
 use cv_kinds::{ActorSpec, Join, inport, outport};
 use cv_token::OutOfMemory;
 use std::alloc::Global;
+use std::collections::BTreeSet;
 
 /// The connections of the joins, in written order; None where a join is not from an outport of a declared actor to an
 /// inport of a declared actor.
@@ -14,7 +17,9 @@ pub fn read_joins(
     alloc: Global,
     statements: &[Statement],
     declared: &Declared,
-) -> Result<Option<Vec<Join>>, OutOfMemory> {
+) -> Result<Option<Vec<Join>>, OutOfMemory>
+    ensures { IfOk result (λ read. IfSome read (λ joins. All (Joins declared.now.actors.items) joins.items)) }
+{
     let mut joins = Vec::new(alloc);
     for statement in statements {
         if let Statement::Join { from, to } = statement {
@@ -28,7 +33,9 @@ pub fn read_joins(
 }
 
 /// The connection of a join.
-fn connection(declared: &Declared, producer: &Port, consumer: &Port) -> Option<Join> {
+fn connection(declared: &Declared, producer: &Port, consumer: &Port) -> Option<Join>
+    ensures { IfSome result (Joins declared.now.actors.items) }
+{
     let from = *declared.places.get(producer.actor.as_str())?;
     let to = *declared.places.get(consumer.actor.as_str())?;
     let out = outport(
@@ -44,35 +51,65 @@ fn connection(declared: &Declared, producer: &Port, consumer: &Port) -> Option<J
 
 /// The connections by consumer and then inport, where each inport is joined exactly once and each outport at most
 /// once; None where it is otherwise.
-pub fn arranged(actors: &[ActorSpec], joins: Vec<Join>) -> Result<Option<Vec<Join>>, OutOfMemory>
-    requires { length actors.now ≤ 256 }
-    ensures { IfOk result (λ arranged. IfSome arranged (λ joins. vec_len joins ≤ 4096)) }
+pub fn arranged(
+    alloc: Global,
+    actors: &[ActorSpec],
+    joins: Vec<Join>,
+) -> Result<Option<Vec<Join>>, OutOfMemory>
+    requires { All (Joins actors.now) joins.items }
+    ensures few { IfOk result (λ arranged. IfSome arranged (λ joins. vec_len joins ≤ 4096)) }
+    ensures joined { IfOk result (λ arranged. IfSome arranged (λ joins. All (Joins actors.now) joins.items)) }
+    ensures one_writer { IfOk result (λ arranged. IfSome arranged (λ joins. AreDistinct (map consumer_key joins.items))) }
+    ensures one_reader { IfOk result (λ arranged. IfSome arranged (λ joins. AreDistinct (map producer_key joins.items))) }
 {
     let mut joins = joins;
-    joins.sort_by_key(|join| (join.from, join.out))?;
-    if !are_apart(joins.as_slice()) {
+    joins.sort_by_key(|join| (join.to, join.inp))?;
+    if joins.len() > MOST_CONNECTIONS || !feed_all(actors, joins.as_slice()) {
         return Ok(None);
     }
-    joins.sort_by_key(|join| (join.to, join.inp))?;
-    Ok(if joins.len() <= MOST_CONNECTIONS && feed_all(actors, joins.as_slice()) {
-        Some(joins)
-    } else {
-        None
-    })
+    let consumers = consumer_keys(alloc, joins.as_slice())?;
+    let producers = producer_keys(alloc, joins.as_slice())?;
+    if !are_distinct(alloc, consumers.as_slice())? || !are_distinct(alloc, producers.as_slice())? {
+        return Ok(None);
+    }
+    Ok(Some(joins))
+}
+
+/// The number of the inport that each connection feeds.
+fn consumer_keys(alloc: Global, joins: &[Join]) -> Result<Vec<u32>, OutOfMemory>
+    ensures { IfOk result (λ keys. keys.items ≡ map consumer_key joins.now) }
+{
+    joins
+        .iter()
+        .map(|join| u32::from(join.to) * 256 + u32::from(join.inp))
+        .collect(alloc)
+}
+
+/// The number of the outport that each connection comes from.
+fn producer_keys(alloc: Global, joins: &[Join]) -> Result<Vec<u32>, OutOfMemory>
+    ensures { IfOk result (λ keys. keys.items ≡ map producer_key joins.now) }
+{
+    joins
+        .iter()
+        .map(|join| u32::from(join.from) * 256 + u32::from(join.out))
+        .collect(alloc)
+}
+
+/// Whether no two keys are equal.
+fn are_distinct(alloc: Global, keys: &[u32]) -> Result<bool, OutOfMemory>
+    ensures { IfOk result (λ distinct. distinct ≡ true → AreDistinct keys.now) }
+{
+    let mut seen = BTreeSet::new(alloc);
+    for key in keys {
+        if !seen.insert(*key)? {
+            return Ok(false);
+        }
+    }
+    Ok(true)
 }
 
 /// The most connections that a network has.
 const MOST_CONNECTIONS: usize = 4096;
-
-/// Whether no two neighbours come from one outport.
-fn are_apart(joins: &[Join]) -> bool {
-    for place in 1..joins.len() {
-        if joins[place - 1].from == joins[place].from && joins[place - 1].out == joins[place].out {
-            return false;
-        }
-    }
-    true
-}
 
 /// Whether the connections feed each inport of each actor exactly once, in order.
 fn feed_all(actors: &[ActorSpec], joins: &[Join]) -> bool {

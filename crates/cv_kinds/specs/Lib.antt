@@ -1,3 +1,4 @@
 pub mod KindRow
 pub mod Names
 pub mod Net
+pub mod Wired

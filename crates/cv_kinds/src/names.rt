@@ -1,6 +1,7 @@
 //! The names of the kinds and of their ports.
 
-ghost use Rattle.std.specs.Prelude.{◌≡◌};
+ghost use Rattle.std.specs.Prelude.{◌≡◌, ◌<◌, IfSome};
+ghost use Rattle.cv_kinds.specs.KindRow.{inport_count, outport_count};
 ghost use Rattle.cv_kinds.specs.Names.{kind_named, name_of, inport_named, outport_named};
 
 use crate::kind::Kind;
@@ -33,7 +34,8 @@ pub fn name(kind: Kind) -> &'static str
 
 /// The number of the inport of that name; None exactly where the kind has no such inport.
 pub fn inport(kind: Kind, name: &str) -> Option<u8>
-    ensures { result ≡ inport_named kind name.now }
+    ensures named { result ≡ inport_named kind name.now }
+    ensures within { IfSome result (λ port. port < inport_count kind) }
 {
     match kind {
         Kind::Constant => None,
@@ -43,7 +45,8 @@ pub fn inport(kind: Kind, name: &str) -> Option<u8>
 
 /// The number of the outport of that name; None exactly where the kind has no such outport.
 pub fn outport(kind: Kind, name: &str) -> Option<u8>
-    ensures { result ≡ outport_named kind name.now }
+    ensures named { result ≡ outport_named kind name.now }
+    ensures within { IfSome result (λ port. port < outport_count kind) }
 {
     match kind {
         Kind::Constant | Kind::Identity => if name == "token" { Some(0) } else { None },
