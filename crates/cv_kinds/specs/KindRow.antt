@@ -76,3 +76,8 @@ is_ready k args state action inputs = nat_lt action (action_count k) && has_coun
 -- what an outport is given
 abbrev pub given_at : List (Option Token) → ℕ → List Token
 given_at out port = option_to_list (unwrap_or (slice_get out port) None)
+
+abbrev pub is_print : Kind → Bool
+is_print Constant = false
+is_print Identity = false
+is_print Print = true

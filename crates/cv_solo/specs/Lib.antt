@@ -1,3 +1,4 @@
+pub mod Keyed
 pub mod Machine
 pub mod OneRuntime
 pub mod PrintedText

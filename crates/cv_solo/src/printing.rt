@@ -1,7 +1,8 @@
 //! The lines of the prints.
 
-ghost use Rattle.std.specs.Prelude.{◌≡◌, ◌≤◌, ◌++◌, length, take, string_bytes, OnOk};
-ghost use Rattle.cv_solo.specs.PrintedText.{taken_at, print_line, print_lines};
+ghost use Rattle.std.specs.Prelude.{◌≡◌, ◌≤◌, ◌++◌, length, take, map, string_bytes, OnOk, IfOk};
+ghost use Rattle.cv_solo.specs.PrintedText.{taken_at, print_line, print_lines, print_of, prints_from, InPathOrder, IsPrinted};
+ghost use Rattle.cv_solo.specs.Keyed.{keyed};
 
 use crate::solo::{Solo, feeds, first_of};
 use crate::stream::Stream;
@@ -72,23 +73,49 @@ fn push_line(
 /// The prints of a network, in the order of their paths' bytes, each with its path.
 fn prints_in_order(alloc: Global, actors: &[ActorSpec]) -> Result<Vec<(String, u16)>, OutOfMemory>
     requires { length actors.now ≤ 256 }
+    ensures { IfOk result (λ prints. InPathOrder actors.now (map keyed prints.items)) }
 {
-    let mut prints = Vec::new(alloc);
-    for (place, actor) in actors.iter().enumerate() {
-        if actor.kind == Kind::Print {
-            prints.push((String::from_str(alloc, actor.path.as_str())?, place as u16))?;
-        }
-    }
+    let mut prints = collected_prints(alloc, actors)?;
     prints.sort()?;
     Ok(prints)
 }
 
+/// The prints of a network, in the order of the actors.
+fn collected_prints(alloc: Global, actors: &[ActorSpec]) -> Result<Vec<(String, u16)>, OutOfMemory>
+    requires { length actors.now ≤ 256 }
+    ensures { IfOk result (λ prints. map keyed prints.items ≡ prints_from 0 actors.now) }
+{
+    let mut prints = Vec::new(alloc);
+    for (place, actor) in actors.iter().enumerate() {
+        push_print(alloc, &mut prints, place as u16, actor)?;
+    }
+    Ok(prints)
+}
+
+/// Adds an actor if it is a print.
+fn push_print(
+    alloc: Global,
+    prints: &mut Vec<(String, u16)>,
+    place: u16,
+    actor: &ActorSpec,
+) -> Result<(), OutOfMemory>
+    ensures { OnOk result (map keyed prints.new.items ≡ map keyed prints.old.items ++ print_of place actor.now) }
+{
+    if actor.kind == Kind::Print {
+        prints.push((String::from_str(alloc, actor.path.as_str())?, place))?;
+    }
+    Ok(())
+}
+
 impl Solo {
     /// The lines of the prints: for each in the order of its path's bytes one line `PATH TOKEN` for each token taken.
-    pub fn print(&self, alloc: Global) -> Result<Text, OutOfMemory> {
+    pub fn print(&self, alloc: Global) -> Result<Text, OutOfMemory>
+        ensures { IfOk result (IsPrinted self.now.net self.now.runtime.streams) }
+    {
+        let prints = prints_in_order(alloc, self.network().actors())?;
         let mut lines = String::new(alloc);
-        for (path, place) in &prints_in_order(alloc, self.network().actors())? {
-            push_lines(alloc, &mut lines, path.as_str(), self.taken(*place))?;
+        for print in &prints {
+            push_lines(alloc, &mut lines, print.0.as_str(), self.taken(print.1))?;
         }
         Ok(Text::from_string(lines))
     }
