@@ -23,7 +23,7 @@ TakenFrom limit old new end.OutOfMemory = GaveSome old new (λ n. n ≤ limit)
 abbrev pub line : List ℕ → List ℕ
 line text = text ++ 10 ∷ []
 
--- the sink got the line of the fault, or, where it failed, the front of a text
+-- the sink got the line of the fault, or, where it failed, the front of a text; what it got of a run is said elsewhere
 abbrev pub WrittenTo : Option (List ℕ) → Option (List ℕ) → End → Type 0
 WrittenTo old new end.Usage = Appends old new (line (codes "usage"))
 WrittenTo old new end.ReadFault = Appends old new (line (codes "read"))
@@ -31,8 +31,8 @@ WrittenTo old new end.OutOfMemory = Appends old new (line (codes "memory"))
 WrittenTo old new end.TooLong = Appends old new (line (codes "long"))
 WrittenTo old new end.WriteFault = (text : List ℕ) × AppendsFront old new text
 WrittenTo old new (end.Script number col code) = (text : List ℕ) × Appends old new text
-WrittenTo old new end.Spent = (text : List ℕ) × Appends old new text
-WrittenTo old new end.Quiescent = (text : List ℕ) × Appends old new text
+WrittenTo old new end.Spent = Unit {0}
+WrittenTo old new end.Quiescent = Unit {0}
 
 -- after a text was to be written: all of it was, and the call ends as stated; or the sink failed, and a part of it was
 abbrev pub EndsAfter : Option (List ℕ) → Option (List ℕ) → ℕ → ℕ → List ℕ → End → End → Type 0

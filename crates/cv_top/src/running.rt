@@ -1,7 +1,11 @@
 //! A run of a network on one node: its record, and what its prints have printed.
 
-ghost use Rattle.std.specs.Prelude.{IfOk};
-ghost use Rattle.cv_node.specs.Recorded.{IsOneNodeRun};
+ghost use Rattle.std.specs.Prelude.{◌≡◌, ◌≤◌, ℕ, List, ◌++◌, length, Some, string_bytes, IfOk, OnOk};
+ghost use Rattle.cv_solo.specs.OneRuntime.{Runtime, solo, solo_from};
+ghost use Rattle.cv_top.specs.Printed.{firings_of, last_lines, end_word, IsTextWhereDefined};
+ghost use Rattle.cv_merge.specs.Streams.{firing_of};
+ghost use Rattle.cv_kinds.specs.Wired.{IsWired};
+ghost use Rattle.cv_top.specs.Ran.{IsRightRun};
 
 use cv_kinds::Network;
 use cv_node::{Event, Record, Step, Stop, run_alone};
@@ -18,8 +22,10 @@ pub struct Run {
 }
 
 /// Runs a network on one node, with so many firings at most.
+#[tactic(auto, using(crate::proofs::Rights::right_run))]
 pub fn run_network(alloc: Global, net: Network, most: u32) -> Result<Run, OutOfMemory>
-    ensures { IfOk result (λ run. IsOneNodeRun net most run.stop run.merged) }
+    requires { IsWired net }
+    ensures { IfOk result (λ run. IsRightRun net most run.stop run.merged (string_bytes run.text)) }
 {
     let (stop, merged) = run_alone(alloc, net.copy(alloc)?, most)?;
     let text = printed(alloc, &net, merged.entries.as_slice(), stop)?;
@@ -27,46 +33,90 @@ pub fn run_network(alloc: Global, net: Network, most: u32) -> Result<Run, OutOfM
 }
 
 /// The text of a run: the lines of its prints, the number of its firings, and its end.
-fn printed(
-    alloc: Global,
-    net: &Network,
-    steps: &[Step],
-    stop: Stop,
-) -> Result<String, OutOfMemory> {
-    let mut solo = Solo::new(alloc, net)?;
-    for step in steps {
-        if let Event::Fire { actor, action } = &step.event {
-            fire(alloc, &mut solo, actor.actor, *action)?;
-        }
-    }
-    let firings = firing_count(steps);
+fn printed(alloc: Global, net: &Network, steps: &[Step], stop: Stop) -> Result<String, OutOfMemory>
+    ensures { IfOk result (λ text. IsTextWhereDefined net.now (firings_of steps.now) stop (string_bytes text)) }
+{
+    let solo = replayed(alloc, net, steps)?;
     let prints = solo.print(alloc)?;
-    let lines = prints.as_str();
-    let last = match stop {
+    let count = firing_count(steps);
+    with_last_lines(alloc, prints.as_str(), count, stop)
+}
+
+/// The lines of the prints with the last two lines.
+fn with_last_lines(
+    alloc: Global,
+    lines: &str,
+    count: usize,
+    stop: Stop,
+) -> Result<String, OutOfMemory>
+    ensures { IfOk result (λ text. string_bytes text ≡ lines.now ++ last_lines count stop) }
+{
+    let number = count.to_string(alloc)?;
+    let mut text = String::from_str(alloc, lines)?;
+    text.push_str("firings ")?;
+    text.push_str(number.as_str())?;
+    text.push_str("\nend ")?;
+    text.push_str(end_word(stop))?;
+    text.push_str("\n")?;
+    Ok(text)
+}
+
+/// The word of an end.
+fn end_word(stop: Stop) -> &'static str
+    ensures { result.now ≡ end_word stop }
+{
+    match stop {
         Stop::Spent => "spent",
         Stop::Quiescent => "quiescent",
+    }
+}
+
+/// The one runtime after the recorded firings.
+fn replayed(alloc: Global, net: &Network, steps: &[Step]) -> Result<Solo, OutOfMemory>
+    ensures { IfOk result (λ s. (s.net ≡ net.now) × ((r : Runtime) → solo net.now (firings_of steps.now) ≡ Some r → s.runtime ≡ r)) }
+{
+    let mut solo = Solo::new(alloc, net)?;
+    for step in steps {
+        replay_step(alloc, &mut solo, step)?;
+    }
+    Ok(solo)
+}
+
+/// Fires what a step fired, if it is a firing. What is not allowed is passed over.
+fn replay_step(alloc: Global, solo: &mut Solo, step: &Step) -> Result<(), OutOfMemory>
+    ensures net { solo.new.net ≡ solo.old.net }
+    ensures goes_on { OnOk result ((rest : List (ℕ × ℕ)) (r : Runtime) → solo_from solo.old.net solo.old.runtime (firing_of step.now.event ++ rest) ≡ Some r → solo_from solo.old.net solo.new.runtime rest ≡ Some r) }
+{
+    let Event::Fire { actor, action } = &step.event else {
+        return Ok(())
     };
-    format!(in alloc; "{lines}firings {firings}\nend {last}\n")
+    match solo.fire(alloc, actor.actor, *action) {
+        Err(SoloFault::OutOfMemory) => Err(AllocError),
+        _ => Ok(()),
+    }
 }
 
 /// How many firings the steps have.
-fn firing_count(steps: &[Step]) -> usize {
-    steps
-        .iter()
-        .filter(|step| matches!(
-            &step.event,
-            Event::Fire {
-                actor: _,
-                action: _
-            }
-        ))
-        .count()
+fn firing_count(steps: &[Step]) -> usize
+    ensures { result ≡ length (firings_of steps.now) }
+{
+    let mut count = 0;
+    for step in steps {
+        count += firings_in(step);
+    }
+    count
 }
 
-/// Fires one recorded action.
-fn fire(alloc: Global, solo: &mut Solo, actor: u16, action: u8) -> Result<(), OutOfMemory> {
-    match solo.fire(alloc, actor, action) {
-        Err(SoloFault::OutOfMemory) => Err(AllocError),
-        _ => Ok(()),
+/// Whether a step is a firing, as a number.
+fn firings_in(step: &Step) -> usize
+    ensures count { result ≡ length (firing_of step.now.event) }
+    ensures one { result ≤ 1 }
+{
+    match &step.event {
+        Event::Fire {
+            actor: _,
+            action: _,
+        } => 1,
+        _ => 0,
     }
 }

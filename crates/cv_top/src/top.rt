@@ -4,7 +4,7 @@ ghost use Rattle.std.specs.Prelude.{◌≡◌, ◌⊎◌, ◌↔◌, map, string
 ghost use Rattle.cv_io.specs.Faults.{Rose};
 ghost use Rattle.cv_top.specs.Words.{run_words};
 ghost use Rattle.cv_top.specs.Causes.{TakenFrom, WrittenTo};
-ghost use Rattle.cv_top.specs.Ran.{HasRecord, IsRecordOf, MatchEnd};
+ghost use Rattle.cv_top.specs.Ran.{Ran, IsRunOf, Finished};
 ghost use Rattle.cv_top.specs.Ends.{status_of, end_of, end_at};
 
 use crate::end::{End, Outcome, Refusal};
@@ -22,6 +22,7 @@ pub const SCRIPT_LIMIT: usize = 1 << 20;
 /// Does what the words ask for: reads a script from the source, runs it, and writes its text to the sink. The order is
 /// words, reading, length, script, run, writing. The runtime and the gate are for runs of several nodes, which are not
 /// built yet.
+#[tactic(auto, using(crate::proofs::Rights::ran_from_finished))]
 pub fn calvin<R: Threads + Sync, S: Source, K: Sink, G: Gate>(
     _rt: &R,
     alloc: Global,
@@ -42,8 +43,9 @@ pub fn calvin<R: Threads + Sync, S: Source, K: Sink, G: Gate>(
     ensures written { WrittenTo (K.written sink.old) (K.written sink.new) result.end }
     ensures status { result.status ≡ status_of result.end }
 
-    // The record is that of the run, of node 1 alone, which ended rightly; at all other ends it is empty.
-    ensures merged { HasRecord (map string_bytes words.now) result.end result.merged }
+    // At the ends of a run the record is a local run of node 1 that ended rightly and kept its streams, and the sink got
+    // exactly the text of the one runtime that fires the recorded actions; at all other ends the record is empty.
+    ensures ran { Ran (map string_bytes words.now) (K.written sink.old) (K.written sink.new) result.end result.merged }
     ensures cuts { vec_len result.cuts ≡ 0 }
 {
     match decided(alloc, words, source) {
@@ -55,7 +57,7 @@ pub fn calvin<R: Threads + Sync, S: Source, K: Sink, G: Gate>(
 /// Writes the text of a run.
 fn finished<K: Sink>(alloc: Global, sink: &mut K, run: Run) -> Outcome
     ensures ends { (result.end ≡ end_at run.stop) ⊎ (result.end ≡ End.WriteFault) }
-    ensures merged { MatchEnd run.stop run.merged result.end result.merged }
+    ensures ran { Finished run.stop run.merged (string_bytes run.text) (K.written sink.old) (K.written sink.new) result.end result.merged }
     ensures write_fault { result.end ≡ End.WriteFault → Rose (K.faults sink.old) (K.faults sink.new) }
     ensures written { WrittenTo (K.written sink.old) (K.written sink.new) result.end }
     ensures status { result.status ≡ status_of result.end }
@@ -69,11 +71,12 @@ fn finished<K: Sink>(alloc: Global, sink: &mut K, run: Run) -> Outcome
 }
 
 /// Reads the words and the source, and runs the script.
+#[tactic(auto, using(crate::proofs::Rights::run_of_words))]
 fn decided<S: Source>(alloc: Global, words: &[String], source: &mut S) -> Result<Run, Refusal>
     ensures usage { (result ≡ Err Refusal.Usage) ↔ (run_words (map string_bytes words.now) ≡ None) }
     ensures taken { MatchResult result (λ run. TakenFrom 1048576 (S.left source.old) (S.left source.new) (end_at run.stop)) (λ r. TakenFrom 1048576 (S.left source.old) (S.left source.new) (end_of r)) }
     ensures read_fault { result ≡ Err Refusal.ReadFault → Rose (S.faults source.old) (S.faults source.new) }
-    ensures ran { IfOk result (λ run. IsRecordOf (map string_bytes words.now) run.stop run.merged) }
+    ensures ran { IfOk result (λ run. IsRunOf (map string_bytes words.now) run.stop run.merged (string_bytes run.text)) }
 {
     let Some(most) = read_words(words) else {
         return Err(Refusal::Usage)
