@@ -1,0 +1,3 @@
+pub mod Giving
+pub mod Ready
+pub mod Sameness

@@ -1,0 +1,2 @@
+pub mod KindRow
+pub mod Values

@@ -1,0 +1,214 @@
+//! Each kind on a few inputs: arguments, state, action and heads, and what comes of them.
+
+use crate::CalcKind;
+use cv_behave::{Behave, Effect};
+use cv_token::{Items, Token, read_tree, text};
+use std::alloc::Global;
+use std::test::Fail;
+
+/// The line, with as many letters as each mark like `@3;` says in its place.
+fn expanded(alloc: Global, line: &str) -> Result<String, Fail> {
+    let mut whole = String::new(alloc);
+    let mut is_first = true;
+    for piece in line.split('@') {
+        if is_first {
+            whole.push_str(piece)?;
+            is_first = false;
+        } else {
+            let (count, more) = piece.split_once(';').ok_or("a count")?;
+            for _i in 0..count.parse::<u32>().ok().ok_or("a number")? {
+                whole.push_str("a")?;
+            }
+            whole.push_str(more)?;
+        }
+    }
+    Ok(whole)
+}
+
+/// The list that is written in JSON.
+fn list(alloc: Global, written: &str) -> Result<Items, Fail> {
+    match read_tree(alloc, written.as_bytes())? {
+        Some(Token::List(items)) => Ok(items),
+        _ => Err(Fail::from("a list")),
+    }
+}
+
+/// The state afterwards and what each outport is given, `-` for nothing.
+fn told(alloc: Global, effect: Effect) -> Result<String, Fail> {
+    let Effect { state, out } = effect;
+    let state = text(alloc, &Token::List(state))?;
+    let mut told = String::from_str(alloc, state.as_str())?;
+    for given in out.as_slice() {
+        told.push_str(" ")?;
+        match given {
+            Some(token) => told.push_str(text(alloc, token)?.as_str())?,
+            None => told.push_str("-")?,
+        }
+    }
+    Ok(told)
+}
+
+/// What the action does, or `no` where its guard does not hold; the line has arguments, state, action and heads.
+fn fired<K: Behave>(alloc: Global, kind: &K, line: &str) -> Result<String, Fail> {
+    let (args, more) = line.split_once(' ').ok_or("arguments")?;
+    let (state, more) = more.split_once(' ').ok_or("a state")?;
+    let (action, heads) = more.split_once(' ').ok_or("an action")?;
+    let args = list(alloc, args)?;
+    let state = list(alloc, state)?;
+    let heads = list(alloc, heads)?;
+    let action = action.parse::<u8>().ok().ok_or("a number")?;
+    if !kind.guard(&args, &state, action, heads.get(0)) {
+        return Ok(String::from_str(alloc, "no")?);
+    }
+    told(alloc, kind.effect(alloc, &args, &state, action, &heads)?)
+}
+
+const MATH: [(CalcKind, &str); 6] = [
+    (
+        CalcKind::Add,
+        r#"[] [] 0 [2,3] > [] 5
+[] [] 0 [9223372036854775807,1] > [] null
+[] [] 0 [-9223372036854775808,-1] > [] null
+[] [] 0 [9223372036854775807,-9223372036854775808] > [] -1
+[] [] 0 [1,"2"] > [] null
+[] [] 0 [1] > [] null
+[] [] 1 [2,3] > no"#,
+    ),
+    (
+        CalcKind::Subtract,
+        r#"[] [] 0 [5,7] > [] -2
+[] [] 0 [-9223372036854775808,1] > [] null
+[] [] 0 [0,-9223372036854775808] > [] null
+[] [] 0 [-1,-9223372036854775808] > [] 9223372036854775807
+[] [] 0 [true,1] > [] null"#,
+    ),
+    (
+        CalcKind::Multiply,
+        r#"[] [] 0 [6,-7] > [] -42
+[] [] 0 [4611686018427387904,2] > [] null
+[] [] 0 [-4611686018427387904,2] > [] -9223372036854775808
+[] [] 0 [-1,-9223372036854775808] > [] null
+[] [] 0 [null,1] > [] null"#,
+    ),
+    (
+        CalcKind::Divide,
+        r#"[] [] 0 [-7,2] > [] -3
+[] [] 0 [7,-2] > [] -3
+[] [] 0 [-7,-2] > [] 3
+[] [] 0 [1,0] > [] null
+[] [] 0 [-9223372036854775808,-1] > [] null
+[] [] 0 [-9223372036854775808,1] > [] -9223372036854775808
+[] [] 0 [4,"2"] > [] null"#,
+    ),
+    (
+        CalcKind::Modulo,
+        r#"[] [] 0 [-7,2] > [] -1
+[] [] 0 [7,-2] > [] 1
+[] [] 0 [-9223372036854775808,-1] > [] 0
+[] [] 0 [-9223372036854775808,3] > [] -2
+[] [] 0 [1,0] > [] null
+[] [] 0 [[],2] > [] null"#,
+    ),
+    (
+        CalcKind::Compare,
+        r#"["="] [] 0 [1,true] > [] false
+["="] [] 0 [{"a":1,"b":2},{"b":2,"a":1}] > [] true
+["!="] [] 0 [[1],[1,2]] > [] true
+["!="] [] 0 [null,null] > [] false
+["<"] [] 0 [-1,2] > [] true
+["<"] [] 0 [2,2] > [] false
+["<="] [] 0 [2,2] > [] true
+["<="] [] 0 [3,2] > [] false
+[">"] [] 0 ["b","a"] > [] true
+[">="] [] 0 [2,3] > [] false
+[">="] [] 0 ["a","a"] > [] true
+["<"] [] 0 ["Z","a"] > [] true
+["<"] [] 0 ["a","aa"] > [] true
+["<"] [] 0 ["é","z"] > [] false
+["<"] [] 0 [1,"2"] > [] null
+["<"] [] 0 [null,null] > [] null
+["<>"] [] 0 [1,2] > [] null
+[7] [] 0 [1,2] > [] null"#,
+    ),
+];
+
+const TEXTS: [(CalcKind, &str); 7] = [
+    (
+        CalcKind::Concat,
+        r#"[] [] 0 ["ab","cd"] > [] "abcd"
+[] [] 0 ["",""] > [] ""
+[] [] 0 ["a",1] > [] null
+[] [] 0 ["@511;","@511;"] > [] "@1022;"
+[] [] 0 ["@511;","@512;"] > [] null"#,
+    ),
+    (
+        CalcKind::Length,
+        r#"[] [] 0 ["aé😀"] > [] 3
+[] [] 0 [""] > [] 0
+[] [] 0 ["@1022;"] > [] 1022
+[] [] 0 ["\u0000߿ࠀ￿"] > [] 4
+[] [] 0 [[1,2]] > [] null"#,
+    ),
+    (
+        CalcKind::Prefix,
+        r#"["ab"] [] 0 ["cd"] > [] "abcd"
+[""] [] 0 ["x"] > [] "x"
+["ab"] [] 0 [7] > [] null
+["@511;"] [] 0 ["@511;"] > [] "@1022;"
+["@512;"] [] 0 ["@511;"] > [] null"#,
+    ),
+    (
+        CalcKind::JsonText,
+        r#"[] [] 0 [-1] > [] "-1"
+[] [] 0 [{"b":[1,null],"a":"x"}] > [] "{\"a\":\"x\",\"b\":[1,null]}"
+[] [] 0 ["@1018;"] > [] "\"@1018;\""
+[] [] 0 ["@1019;"] > [] null"#,
+    ),
+    (
+        CalcKind::JsonParse,
+        r#"[] [] 0 ["[1,{\"b\":1,\"a\":2,\"b\":3}]"] > [] [1,{"a":2,"b":3}]
+[] [] 0 ["x"] > [] null
+[] [] 0 ["1.5"] > [] null
+[] [] 0 ["-0"] > [] null
+[] [] 0 ["-9223372036854775808"] > [] -9223372036854775808
+[] [] 0 ["[[[[[[[[[[[[[[[[[]]]]]]]]]]]]]]]]]"] > [] null
+[] [] 0 [7] > [] null"#,
+    ),
+    (
+        CalcKind::JsonGet,
+        r#"["a"] [] 0 [{"a":1,"b":2}] > [] 1
+["b"] [] 0 [{"a":1,"b":[2]}] > [] [2]
+["c"] [] 0 [{"a":1}] > [] null
+[1] [] 0 [[4,5]] > [] 5
+[2] [] 0 [[4,5]] > [] null
+[-1] [] 0 [[4,5]] > [] null
+["a"] [] 0 [[4,5]] > [] null
+[0] [] 0 [{"0":1}] > [] null"#,
+    ),
+    (
+        CalcKind::Not,
+        r#"[] [] 0 [true] > [] false
+[] [] 0 [false] > [] true
+[] [] 0 [1] > [] null
+[] [] 0 [null] > [] null"#,
+    ),
+];
+
+#[test]
+fn calculates(rt: HostRuntime) -> Result<(), Fail> {
+    for table in [MATH.as_slice(), TEXTS.as_slice()] {
+        for (kind, lines) in table {
+            for line in lines.split('\n') {
+                let whole = expanded(rt.alloc(), line)?;
+                let (given, want) = whole.as_str().split_once(" > ").ok_or("two parts")?;
+                assert_eq!(rt;
+                    fired(rt.alloc(), kind, given)?.as_str(),
+                    want,
+                    "{kind:?} {given}"
+                );
+            }
+            assert_eq!(rt; kind.start(rt.alloc(), &Items::new(rt.alloc()))?.len(), 0);
+        }
+    }
+    Ok(())
+}
