@@ -1,0 +1,11 @@
+pub mod Repeats
+pub mod Matching
+pub mod Promises
+pub mod Chains
+pub mod Changes
+pub mod Choices
+pub mod Manies
+pub mod Places
+pub mod Marks
+pub mod Listings
+pub mod Kepts
