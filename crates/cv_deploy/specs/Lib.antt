@@ -1,1 +1,5 @@
-pub mod Keys
+pub mod Arguments
+pub mod Faults
+pub mod Lists
+pub mod Meaning
+pub mod Values

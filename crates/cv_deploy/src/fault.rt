@@ -1,12 +1,33 @@
 //! The faults of scripts.
 
+ghost use Rattle.std.specs.Prelude.{◌≡◌};
+ghost use Rattle.cv_deploy.specs.Faults.{word_of};
+
 use std::alloc::AllocError;
 use std::fmt;
 
 /// What is wrong with a script.
 #[derive(Debug, Clone, Copy, PartialEq, Eq)]
 pub enum Code {
-    /// The bytes are no script of the form that is built.
+    /// The bytes are no UTF-8.
+    NotUtf8,
+    /// A character that begins no lexeme.
+    BadChar,
+    /// A quoted text that never ends, at its quote.
+    OpenText,
+    /// A comment that never ends, at its first byte.
+    OpenComment,
+    /// An integer outside 64 signed bits.
+    WideNumber,
+    /// An escape that says no character, at its `\`.
+    BadEscape,
+    /// A name of more than 64 bytes.
+    LongName,
+    /// The first lexeme with which no script begins like this, or the end of the text.
+    Unexpected,
+    /// The lexeme that opens the 17th level of a literal or an expression.
+    TooDeep,
+    /// The script is not of the form that is built.
     Unbuilt,
 }
 
@@ -36,10 +57,28 @@ impl From<AllocError> for NoNetwork {
     }
 }
 
+impl Code {
+    /// The word that the program prints.
+    pub fn word(self) -> &'static str
+        ensures { result.now ≡ word_of self }
+    {
+        match self {
+            Code::NotUtf8 => "NotUtf8",
+            Code::BadChar => "BadChar",
+            Code::OpenText => "OpenText",
+            Code::OpenComment => "OpenComment",
+            Code::WideNumber => "WideNumber",
+            Code::BadEscape => "BadEscape",
+            Code::LongName => "LongName",
+            Code::Unexpected => "Unexpected",
+            Code::TooDeep => "TooDeep",
+            Code::Unbuilt => "Unbuilt",
+        }
+    }
+}
+
 impl fmt::Display for Code {
     fn fmt<W: fmt::Write>(&self, f: &mut fmt::Formatter<W>) -> fmt::Result {
-        match self {
-            Code::Unbuilt => f.write_str("Unbuilt"),
-        }
+        f.write_str(self.word())
     }
 }

@@ -1,4 +1,5 @@
 pub mod KindRow
 pub mod Names
 pub mod Net
+pub mod Parameters
 pub mod Wired

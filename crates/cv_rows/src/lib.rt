@@ -36,8 +36,6 @@ mod tests {
 
     const NOTHING: &str = "firings 0\nend quiescent\n";
 
-    const UNBUILT: &str = "script 1:1 Unbuilt\n";
-
     /// A row: words, script, status, and the bytes on the sink.
     struct Row {
         words: &'static [&'static str],
@@ -46,7 +44,7 @@ mod tests {
         text: &'static str,
     }
 
-    const ROWS: [Row; 22] = [
+    const ROWS: [Row; 18] = [
         Row {
             words: &["run"],
             script: CONSTANT,
@@ -102,47 +100,24 @@ mod tests {
             status: 0,
             text: "Z 2\nz 1\nfirings 5\nend quiescent\n",
         },
+        // Any literal may be given as data.
         Row {
             words: &["run"],
-            script: "a : std.Nope()\n",
-            status: 3,
-            text: UNBUILT,
+            script: "src : std.Constant(data={\"b\":[1,null],\"a\":true,\"b\":\"x\"})\nsnk : io.Print()\nsrc.token > snk.token\n",
+            status: 0,
+            text: "snk {\"a\":true,\"b\":\"x\"}\nfirings 2\nend quiescent\n",
         },
         Row {
             words: &["run"],
-            script: "a : io.Print()\n",
-            status: 3,
-            text: UNBUILT,
+            script: "src : std.Constant(n=1, data=[\"\\u00e9\\n\", -0, 007])snk:io.Print()src.token>snk.token// the end",
+            status: 0,
+            text: "snk [\"\u{e9}\\n\",0,7]\nfirings 2\nend quiescent\n",
         },
         Row {
             words: &["run"],
-            script: "a : std.Constant(data=1)\na : std.Constant(data=1)\n",
-            status: 3,
-            text: UNBUILT,
-        },
-        Row {
-            words: &["run"],
-            script: "a : std.Constant(n=1)\n",
-            status: 3,
-            text: UNBUILT,
-        },
-        Row {
-            words: &["run"],
-            script: "a : std.Constant(data=1, n=-2)\n",
-            status: 3,
-            text: UNBUILT,
-        },
-        Row {
-            words: &["run"],
-            script: "a : std.Constant(data=1)\na.nope > a.nope\n",
-            status: 3,
-            text: UNBUILT,
-        },
-        Row {
-            words: &["run"],
-            script: "null : std.Constant(data=1)\n",
-            status: 3,
-            text: UNBUILT,
+            script: "src : std.Constant(data=null)\nmid : std.Identity(dump=true)\nsnk : io.Print()\nsrc.token > mid.token\nmid.token > snk.token\n",
+            status: 0,
+            text: "snk null\nfirings 3\nend quiescent\n",
         },
         Row {
             words: &["run", "--nodes", "2"],
@@ -198,6 +173,91 @@ mod tests {
         Ok(())
     }
 
+    /// Scripts of no meaning, with the place and the code of each.
+    const REFUSED: [(&str, &str); 45] = [
+        // No lexemes.
+        ("a : std.Constant(data=\"x", "1:23 OpenText"),
+        ("a : std.Constant(data=9223372036854775808)", "1:23 WideNumber"),
+        ("a : io.Print()\n  ?", "2:3 BadChar"),
+        ("\n\n /* x", "3:2 OpenComment"),
+        ("\"a\\q\" > b.c", "1:3 BadEscape"),
+        (LONG, "1:1 LongName"),
+        // A fault of the lexemes counts though one of the grammar stands further left.
+        ("a : A ?", "1:7 BadChar"),
+        // No script.
+        ("a : std.Counter() >", "1:19 Unexpected"),
+        ("a : A", "1:6 Unexpected"),
+        ("a : A\n", "2:1 Unexpected"),
+        ("null : std.Constant(data=1)", "1:6 Unexpected"),
+        ("a : io.Print() // no join\nsrc.token > \n", "3:1 Unexpected"),
+        (
+            "a : std.Constant(data=[[[[[[[[[[[[[[[[[1]]]]]]]]]]]]]]]]])",
+            "1:39 TooDeep",
+        ),
+        // Other kinds, arguments and ports than those that are built.
+        ("a : std.Nope()", "1:1 Unbuilt"),
+        ("a : Nope()", "1:1 Unbuilt"),
+        ("a : std.Constant()", "1:1 Unbuilt"),
+        ("a : std.Constant(n=1)", "1:1 Unbuilt"),
+        ("a : std.Constant(data=1, n=-2)", "1:1 Unbuilt"),
+        ("a : std.Constant(data=1, n=\"1\")", "1:1 Unbuilt"),
+        ("a : std.Constant(data=1, data=1)", "1:1 Unbuilt"),
+        ("a : std.Constant(data=1, x=1)", "1:1 Unbuilt"),
+        ("a : std.Constant(data=0.5)", "1:1 Unbuilt"),
+        ("a : std.Constant(data=x)", "1:1 Unbuilt"),
+        ("a : std.Identity(dump=1)a.token>a.token", "1:1 Unbuilt"),
+        ("a : std.Identity(dump=true, dump=true)a.token>a.token", "1:1 Unbuilt"),
+        ("a : std.Identity(data=1)a.token>a.token", "1:1 Unbuilt"),
+        ("a:std.Constant(data=1)b:io.Print(x=1)a.token>b.token", "1:1 Unbuilt"),
+        ("a : std.Constant(data=1)\na : std.Constant(data=1)", "1:1 Unbuilt"),
+        ("a : std.Constant(data=1)\na.nope > a.nope", "1:1 Unbuilt"),
+        ("a:std.Constant(data=1)b:io.Print()a.nope>b.token", "1:1 Unbuilt"),
+        ("a:std.Constant(data=1)b:io.Print()a.token>b.nope", "1:1 Unbuilt"),
+        ("a:std.Constant(data=1)b:io.Print()c.token>b.token", "1:1 Unbuilt"),
+        // Inports that are joined not once, and an outport that is joined twice.
+        ("a : io.Print()", "1:1 Unbuilt"),
+        ("a:std.Constant(data=1)c:std.Constant(data=1)b:io.Print()a.token>b.token c.token>b.token", "1:1 Unbuilt"),
+        ("a:std.Constant(data=1)b:io.Print()c:io.Print()a.token>b.token a.token>c.token", "1:1 Unbuilt"),
+        // Joins and statements of other forms.
+        ("a:std.Constant(data=1)b:io.Print()c:io.Print()a.token>b.token, c.token", "1:1 Unbuilt"),
+        ("b:io.Print() 5 > b.token", "1:1 Unbuilt"),
+        ("b:io.Print() X > b.token", "1:1 Unbuilt"),
+        ("b:io.Print() voidport > b.token", "1:1 Unbuilt"),
+        ("a:std.Constant(data=1) a.token > voidport", "1:1 Unbuilt"),
+        ("b:io.Print() .x > b.token", "1:1 Unbuilt"),
+        ("component A() -> {}", "1:1 Unbuilt"),
+        ("define D = 1", "1:1 Unbuilt"),
+        ("rule r : node_attr_match(index=[\"a\", {}])", "1:1 Unbuilt"),
+        ("apply a : r", "1:1 Unbuilt"),
+    ];
+
+    /// A name of 65 letters.
+    const LONG: &str = "aaaaaaaaaaaaaaaaaaaaaaaaaaaaaaaaaaaaaaaaaaaaaaaaaaaaaaaaaaaaaaaaa";
+
+    #[test]
+    fn scripts_have_their_faults(rt: HostRuntime) -> Result<(), Fail> {
+        let alloc = rt.alloc();
+        for (script, fault) in &REFUSED {
+            let bytes = Vec::from_slice(alloc, script.as_bytes())?;
+            let mut source = MemSource::new(bytes, 7, Vec::new(alloc));
+            let mut sink = MemSink::new(alloc, 5, Vec::new(alloc));
+            assert_eq!(rt; status(&rt, alloc, &["run"], &mut source, &mut sink)?, 3);
+            let text = format!(in alloc; "script {fault}\n")?;
+            assert_eq!(rt; sink.bytes(), text.as_bytes());
+        }
+        Ok(())
+    }
+
+    #[test]
+    fn bytes_that_are_no_text_are_refused_first(rt: HostRuntime) -> Result<(), Fail> {
+        let alloc = rt.alloc();
+        let mut source = MemSource::new(vec![in alloc; 255u8; 3]?, 7, Vec::new(alloc));
+        let mut sink = MemSink::new(alloc, 5, Vec::new(alloc));
+        assert_eq!(rt; status(&rt, alloc, &["run"], &mut source, &mut sink)?, 3);
+        assert_eq!(rt; sink.bytes(), "script 1:1 NotUtf8\n".as_bytes());
+        Ok(())
+    }
+
     #[test]
     fn failing_devices_have_their_ends(rt: HostRuntime) -> Result<(), Fail> {
         let alloc = rt.alloc();
@@ -223,6 +283,13 @@ mod tests {
         let mut sink = MemSink::new(alloc, 100, Vec::new(alloc));
         assert_eq!(rt; status(&rt, alloc, &words, &mut just, &mut sink)?, 0);
         assert_eq!(rt; sink.bytes(), NOTHING.as_bytes());
+
+        let mut comment = vec![in alloc; b'/'; 2]?;
+        comment.resize(1 << 20, b'x')?;
+        let mut source = MemSource::new(comment, 1 << 16, Vec::new(alloc));
+        let mut printed = MemSink::new(alloc, 100, Vec::new(alloc));
+        assert_eq!(rt; status(&rt, alloc, &words, &mut source, &mut printed)?, 0);
+        assert_eq!(rt; printed.bytes(), NOTHING.as_bytes());
 
         let mut over = MemSource::new(
             vec![in alloc; 32u8; (1 << 20) + 1]?,

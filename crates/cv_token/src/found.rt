@@ -51,7 +51,7 @@ fn members_within(members: &Map<String, Value>, most: u32) -> bool
 
 /// The token of a value, or `BadNumber` where a number of it is no integer of 64 signed bits.
 #[cycle(found)]
-pub(crate) fn token_from(alloc: Global, value: &Value) -> Result<Token, TokenFault>
+pub fn token_from(alloc: Global, value: &Value) -> Result<Token, TokenFault>
     ensures { Converts result (token_of (view value.now)) }
 {
     match value {

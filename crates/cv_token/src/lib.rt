@@ -21,6 +21,7 @@ pub mod writing;
 pub use equality::{are_equal, are_equal_items, are_equal_pairs};
 pub use fault::TokenFault;
 pub use fitting::{MOST_BYTES, MOST_DEPTH, fits};
+pub use found::token_from;
 pub use identifiers::{ActorId, AppId, ConnId};
 pub use naming::{actor_id, app_id, node_id};
 pub use pairs::{Pair, PairsOf};

@@ -1,12 +1,19 @@
 //! A run of a network on one node: its record, and what its prints have printed.
 
-ghost use Rattle.std.specs.Prelude.{◌≡◌, ◌≤◌, ℕ, List, ◌++◌, length, Some, string_bytes, IfOk, OnOk};
+ghost use Rattle.std.specs.Prelude.{◌≡◌, ◌≤◌, ◌^◌, ℕ, List, ◌++◌, length, Some, None, string_bytes, IfOk, IfErr, OnOk};
+ghost use Rattle.cv_deploy.specs.Faults.{Means, SpellsScript};
+ghost use Rattle.cv_deploy.specs.Meaning.{network_of};
+ghost use Rattle.cv_kinds.specs.Net.{Net};
+ghost use Rattle.cv_syntax.specs.declared.tree.Script.{Script};
+ghost use Rattle.cv_top.specs.Causes.{IsRefusalOf, IsFailure, IsUnbuilt, refused};
 ghost use Rattle.cv_solo.specs.OneRuntime.{Runtime, solo, solo_from};
 ghost use Rattle.cv_top.specs.Printed.{firings_of, last_lines, end_word, IsTextWhereDefined};
 ghost use Rattle.cv_merge.specs.Streams.{firing_of};
 ghost use Rattle.cv_kinds.specs.Wired.{IsWired};
-ghost use Rattle.cv_top.specs.Ran.{IsRightRun};
+ghost use Rattle.cv_top.specs.Ran.{IsRightRun, IsRunOfScript};
 
+use crate::end::Refusal;
+use cv_deploy::{NoNetwork, compile};
 use cv_kinds::Network;
 use cv_node::{Event, Record, Step, Stop, run_alone};
 use cv_solo::{Solo, SoloFault};
@@ -19,6 +26,34 @@ pub struct Run {
     pub stop: Stop,
     pub merged: Record,
     pub text: String,
+}
+
+/// Runs the script that the bytes spell on one node, with so many firings at most.
+pub fn run_script(alloc: Global, bytes: &[u8], most: u32) -> Result<Run, Refusal>
+    requires { length bytes.now ≤ 2 ^ 31 }
+    ensures ran { IfOk result (λ run. IsRunOfScript bytes.now most run.stop run.merged (string_bytes run.text)) }
+    ensures cause { IfErr result (IsRefusalOf bytes.now) }
+    ensures complete { (net : Net) → Means bytes.now net → IfErr result IsFailure }
+    ensures unbuilt { (script : Script) → SpellsScript bytes.now script → network_of script.items ≡ None → IsUnbuilt result }
+{
+    match compile(alloc, bytes) {
+        Ok(net) => run_network(alloc, net, most).map_err(|_| Refusal::OutOfMemory),
+        Err(none) => Err(refused(none)),
+    }
+}
+
+/// The refusal for bytes that stand for no network.
+fn refused(none: NoNetwork) -> Refusal
+    ensures { result ≡ refused none }
+{
+    match none {
+        NoNetwork::Script(fault) => Refusal::Script {
+            line: fault.line,
+            col: fault.col,
+            code: fault.code,
+        },
+        NoNetwork::OutOfMemory => Refusal::OutOfMemory,
+    }
 }
 
 /// Runs a network on one node, with so many firings at most.

@@ -1,4 +1,4 @@
-use Rattle.std.proofs.Common.{◌<◌, ◌^◌, ◌*◌, ◌+◌, arith, rules}
+use Rattle.std.proofs.Common.{arith, rules}
 use Rattle.cv_top.proofs.Digits.{digits_grow, digits_rest}
 use Rattle.cv_top.proofs.words.number_of.Goals as goal
 
