@@ -36,14 +36,6 @@ list_step _ = None
 abbrev pub list_of : Token → Option (List Token)
 list_of t = list_step (out-Token t)
 
-abbrev pub pairs_step : Token-F Token → Option (List (Pair Token))
-pairs_step (Token-F.Dict ps) = Some ps
-pairs_step _ = None
-
--- the pairs of a Dict
-abbrev pub pairs_of : Token → Option (List (Pair Token))
-pairs_of t = pairs_step (out-Token t)
-
 -- ---- results
 
 -- the number, or null past 64 signed bits

@@ -13,12 +13,15 @@ pub type Outs = sqlite_items::Items<Option<Token>>;
 /// What a firing does: the state afterwards, and the tokens given.
 #[derive(Drop)]
 pub struct Effect {
+    /// The slots afterwards, in the order of the row's start.
     pub state: Items,
+    /// What each outport is given, in the order of the outports.
     pub out: Outs,
 }
 
 /// What the actors of a kind do. Each call computes its part of the kind's row. Actions and ports count from 0, actions
-/// in order of priority; `args` are the arguments in the row's order.
+/// in order of priority; `args` are the arguments in the row's order. Durations are milliseconds. The only error is want
+/// of memory.
 pub trait Behave {
     ghost row: { Self → Row };
 
@@ -51,8 +54,9 @@ pub trait Behave {
         ensures { result
             ≡ guard_holds (row self.now) args.now state.now action (option_copied head.entry) };
 
-    /// What the action does on the tokens that it needs, port by port. Where its guard does not hold, the answer is still the
-    /// row's effect, with null for what is undefined.
+    /// What the action does on the tokens that it needs, port by port. Where its guard does not hold, the answer is
+    /// still the row's effect, with null for what is undefined; past the last action it is what the last one does. The
+    /// only error is want of memory.
     fn effect(
         &self,
         alloc: Global,
@@ -64,7 +68,7 @@ pub trait Behave {
         ensures { IfOk result (λ e. e
             ≡ effect_of (row self.now) args.now state.now action heads.now) };
 
-    /// The state at the start.
+    /// The state at the start. The only error is want of memory.
     fn start(&self, alloc: Global, args: &Items) -> Result<Items, OutOfMemory>
         ensures { IfOk result (λ state. state ≡ (row self.now).start args.now) };
 

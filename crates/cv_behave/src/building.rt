@@ -9,7 +9,7 @@ use crate::behave::{Effect, Outs};
 use cv_token::{Items, OutOfMemory, Token};
 use std::alloc::Global;
 
-/// A token equal to the one at that place, or null where there is none.
+/// A token equal to the one at that place, or null where there is none. The only error is want of memory.
 pub fn copied(alloc: Global, items: &Items, at: usize) -> Result<Token, OutOfMemory>
     ensures { IfOk result (λ t. t ≡ item_of items.now at) }
 {
@@ -19,7 +19,7 @@ pub fn copied(alloc: Global, items: &Items, at: usize) -> Result<Token, OutOfMem
     }
 }
 
-/// A state of one slot.
+/// A state of one slot. The only error is want of memory.
 pub fn one_slot(alloc: Global, slot: Token) -> Result<Items, OutOfMemory>
     ensures { IfOk result (λ state. state ≡ slot ∷ []) }
 {
@@ -28,7 +28,7 @@ pub fn one_slot(alloc: Global, slot: Token) -> Result<Items, OutOfMemory>
     Ok(state)
 }
 
-/// A state of two slots.
+/// A state of two slots. The only error is want of memory.
 pub fn two_slots(alloc: Global, first: Token, second: Token) -> Result<Items, OutOfMemory>
     ensures { IfOk result (λ state. state ≡ first ∷ second ∷ []) }
 {
@@ -48,7 +48,7 @@ pub fn silent(alloc: Global, state: Items) -> Effect
     }
 }
 
-/// This state, and what the one outport is given.
+/// This state, and what the one outport is given. The only error is want of memory.
 pub fn giving(alloc: Global, state: Items, token: Option<Token>) -> Result<Effect, OutOfMemory>
     ensures { IfOk result (λ e. e ≡ leaves state (token ∷ [])) }
 {
@@ -57,7 +57,7 @@ pub fn giving(alloc: Global, state: Items, token: Option<Token>) -> Result<Effec
     Ok(Effect { state, out })
 }
 
-/// This state, and what each of two outports is given.
+/// This state, and what each of two outports is given. The only error is want of memory.
 pub fn giving_two(
     alloc: Global,
     state: Items,

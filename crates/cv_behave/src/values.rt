@@ -9,7 +9,7 @@ ghost use Rattle.cv_behave.specs.Values.{item_of, is_true, is_number, is_int, nu
 use cv_token::{Items, OutOfMemory, Token, are_equal, fits};
 use std::alloc::Global;
 
-/// Whether the slot is true.
+/// Whether the slot is true; one that is missing or no Bool is not.
 pub fn is_set(items: &Items, at: usize) -> bool
     ensures { result ≡ is_true (item_of items.now at) }
 {
@@ -19,7 +19,7 @@ pub fn is_set(items: &Items, at: usize) -> bool
     }
 }
 
-/// Whether the slot is this number.
+/// Whether the slot is this number; one that is missing or no Int is not.
 pub fn is_at(items: &Items, at: usize, wanted: u32) -> bool
     ensures { result ≡ is_number wanted (item_of items.now at) }
 {
@@ -29,7 +29,7 @@ pub fn is_at(items: &Items, at: usize, wanted: u32) -> bool
     }
 }
 
-/// Whether the slot is a number.
+/// Whether the slot is an Int.
 pub fn is_whole(items: &Items, at: usize) -> bool
     ensures { result ≡ is_int (item_of items.now at) }
 {
@@ -39,7 +39,7 @@ pub fn is_whole(items: &Items, at: usize) -> bool
     }
 }
 
-/// The sum, or null past 64 bits.
+/// The sum, or null past 64 signed bits.
 pub fn added(a: i64, b: i64) -> Token
     ensures { result ≡ number (a +ℤ b) }
 {
@@ -49,7 +49,7 @@ pub fn added(a: i64, b: i64) -> Token
     }
 }
 
-/// The number after that of the slot, or null where there is none.
+/// The number after that of the slot, or null where the slot is no number or the next is past 64 signed bits.
 pub fn following(items: &Items, at: usize) -> Token
     ensures { result ≡ next_number (item_of items.now at) }
 {
@@ -59,7 +59,7 @@ pub fn following(items: &Items, at: usize) -> Token
     }
 }
 
-/// The slot after a firing: a positive number falls by one.
+/// The slot after a firing: a positive number falls by one, another value stays. The only error is want of memory.
 pub fn falling(alloc: Global, items: &Items, at: usize) -> Result<Token, OutOfMemory>
     ensures { IfOk result (λ t. t ≡ fallen (item_of items.now at)) }
 {
@@ -70,7 +70,7 @@ pub fn falling(alloc: Global, items: &Items, at: usize) -> Result<Token, OutOfMe
     }
 }
 
-/// The token, or null where it does not fit.
+/// The token, or null where it does not fit: it nests over 16 deep, or its text has over 1,024 bytes.
 pub fn fitting(token: Token) -> Token
     ensures { result ≡ fitted token }
 {

@@ -7,10 +7,11 @@ ghost use Rattle.cv_calc.specs.Rows.{row_of};
 ghost use Rattle.cv_calc.specs.Values.{character_count};
 
 use crate::kind::CalcKind;
+use cv_behave::Behave;
 
 /// At most one action is ready.
 pub fn at_most_one_ready(_kind: CalcKind)
-    ensures { Deterministic (row_of _kind) }
+    ensures { Deterministic (⟦<CalcKind as Behave>⟧.row _kind) }
 {}
 
 /// An action that is ready stays ready when tokens are put behind the ends of its inputs.
