@@ -13,7 +13,8 @@ use cv_behave::{Behave, Effect};
 use cv_token::{Items, OutOfMemory, Token};
 use std::alloc::Global;
 
-/// A kind of calculation: one action, which needs one token of each inport and gives one.
+/// A kind of calculation: one action, which needs one token of each inport and gives one. It refuses nothing: what is
+/// undefined, past 64 signed bits or past the bounds of a token is null.
 #[derive(Debug, Clone, Copy, PartialEq, Eq)]
 pub enum CalcKind {
     /// `math.Add()`: the sum of two Ints.

@@ -1,6 +1,6 @@
 -- Of every kind but two at most one action is ready; of these two, two may be.
-use Rattle.std.proofs.Common.{◌≡◌, ◌≢◌, ℕ, suc, zero, ℤ, pos, ◌+ℤ◌, true, List, [], ◌∷◌, refl, sym, ◌∙◌, subst, eqb-true, arith}
-use Rattle.std.specs.Prelude.{int_lt, unwrap_or}
+use Rattle.std.proofs.Common.{◌≡◌, ◌≢◌, ℕ, suc, zero, ℤ, pos, ◌+ℤ◌, true, false, List, [], ◌∷◌, ◌↔◌, refl, sym, ◌∙◌, subst, eqb-true, arith}
+use Rattle.std.specs.Prelude.{IsTrue, int_lt, unwrap_or}
 use Rattle.std.proofs.lemmas.Bool.{and_parts}
 use Rattle.std.proofs.lemmas.Bool.Decides.{Decides-int_eq}
 use Rattle.std.proofs.lemmas.Int.{ints}
@@ -11,7 +11,7 @@ use Rattle.cv_behave.specs.Values.{is_number, is_true, item_of}
 use Rattle.cv_behave.proofs.Ready.{one_alone, two_alone, three_alone, not_both, not_both_swapped}
 use Rattle.cv_flow.specs.declared.kind.FlowKind.{FlowKind}
 use Rattle.cv_flow.specs.declared.kind.FlowKind.TheVariants as kind
-use Rattle.cv_flow.specs.Rows.{row_of}
+use Rattle.cv_flow.specs.Rows.{is_exclusive, row_of}
 use Rattle.cv_flow.specs.Values.{is_positive, is_last, is_before_last, is_empty, is_repeated}
 
 numbers_apart : (m n : ℕ) (t : Token) → (m ≡ n → ⊥) → is_number m t ≡ true → is_number n t ≡ true → ⊥
@@ -79,3 +79,18 @@ not_Join f = zero_one (f [] [] each_one 0 1 refl refl refl)
 
 pub not_Valve : Deterministic (row_of kind.Valve) → ⊥
 not_Valve f = zero_two (f [] [] each_one 0 2 refl refl refl)
+
+abbrev Is : FlowKind → Type 0
+Is k = Deterministic (row_of k)
+
+not_true : IsTrue false → ⊥
+not_true t = cc
+
+alone : (k : FlowKind) → k ≢ kind.Join → k ≢ kind.Valve → IsTrue true ↔ Is k
+alone k a b = (λ t. at_most_one k a b, λ f. refl)
+
+-- at most one action is ready of exactly the kinds that are marked so
+pub right : (k : FlowKind) → IsTrue (is_exclusive k) ↔ Is k
+right kind.Join = (λ t. absurd (not_true t), λ f. absurd (not_Join f))
+right kind.Valve = (λ t. absurd (not_true t), λ f. absurd (not_Valve f))
+right k = alone k (λ e. cc) (λ e. cc)

@@ -1,6 +1,5 @@
 -- Each action gives as many tokens as its row says.
-use Rattle.std.proofs.Common.{ℕ, List, refl}
-use Rattle.cv_token.specs.declared.token.Token.{Token}
+use Rattle.std.proofs.Common.{refl}
 use Rattle.cv_behave.specs.KindRow.{GivesItsTokens, effect_of}
 use Rattle.cv_behave.proofs.Giving.{gives, one_gives, two_give, three_give}
 use Rattle.cv_flow.specs.declared.kind.FlowKind.{FlowKind}

@@ -300,3 +300,9 @@ row_of kind.Valve = valve
 row_of kind.Zip = zip
 row_of kind.Unzip = unzip
 row_of kind.Change = change
+
+-- of every kind but these two at most one action is ready
+abbrev pub is_exclusive : FlowKind → Bool
+is_exclusive kind.Join = false
+is_exclusive kind.Valve = false
+is_exclusive _ = true

@@ -17,22 +17,24 @@ use cv_behave::{Behave, Effect};
 use cv_token::{Items, OutOfMemory, Token};
 use std::alloc::Global;
 
-/// A kind of flow: a source, a sink, or what stands between them.
+/// A kind of flow: a source, a sink, or what stands between them. Durations (`sleep`, `tick`, `delay`) are milliseconds.
+/// An actor of a kind refuses nothing: what is undefined, past 64 signed bits or past the bounds of a token is null.
 #[derive(Debug, Clone, Copy, PartialEq, Eq)]
 pub enum FlowKind {
     /// `std.Constant(data, n)`: writes data, n times, or for ever where n is -1.
     Constant,
     /// `std.Counter(start)`: counts up.
     Counter,
-    /// `std.CountTimer(sleep, start, steps)`: counts up in time, as many steps, or for ever where steps is -1.
+    /// `std.CountTimer(sleep, start, steps)`: counts up each `sleep` milliseconds, as many steps, or for ever where steps is
+    /// -1.
     CountTimer,
     /// `std.Identity(dump)`: passes each token.
     Identity,
     /// `std.Sequence(data)`: writes the elements of data.
     Sequence,
-    /// `std.Trigger(tick, data)`: writes data at each tick.
+    /// `std.Trigger(tick, data)`: writes data each `tick` milliseconds.
     Trigger,
-    /// `std.Delay(delay)`: keeps each token for that long.
+    /// `std.Delay(delay)`: keeps each token for `delay` milliseconds.
     Delay,
     /// `std.Sum()`: the sum of what came so far.
     Sum,
@@ -56,7 +58,7 @@ pub enum FlowKind {
     Select,
     /// `flow.Switch()`: passes a token of the inport that the token of switch names.
     Switch,
-    /// `flow.Batch(n)`: makes lists of n tokens.
+    /// `flow.Batch(n)`: makes lists of n tokens, n from 1 to 64.
     Batch,
     /// `flow.Unbatch()`: gives the elements of lists.
     Unbatch,

@@ -64,6 +64,23 @@ fn fired<K: Behave>(alloc: Global, kind: &K, line: &str) -> Result<String, Fail>
     told(alloc, kind.effect(alloc, &args, &state, action, &heads)?)
 }
 
+/// The arithmetic of row `sum-overflow`.
+const SUM_OVERFLOW: [(FlowKind, &str, &str); 2] = [
+    (
+        FlowKind::Sequence,
+        "[[9223372036854775807,1]] > [0]",
+        r#"[[9223372036854775807,1]] [0] 0 [] > [1] 9223372036854775807
+[[9223372036854775807,1]] [1] 0 [] > [2] 1
+[[9223372036854775807,1]] [2] 0 [] > no"#,
+    ),
+    (
+        FlowKind::Sum,
+        "[] > [0]",
+        r#"[] [0] 0 [9223372036854775807] > [9223372036854775807] 9223372036854775807
+[] [9223372036854775807] 0 [1] > [9223372036854775807] null"#,
+    ),
+];
+
 const SOURCES: [(FlowKind, &str, &str); 6] = [
     (
         FlowKind::Constant,
@@ -102,6 +119,8 @@ const SOURCES: [(FlowKind, &str, &str); 6] = [
 [[4,5]] [2] 0 [] > no
 [[]] [0] 0 [] > no
 [[4,5]] [null] 0 [] > no
+[[4,5]] [9223372036854775807] 0 [] > no
+[[4,5]] [-1] 0 [] > [0] null
 [7] [0] 0 [] > no"#,
     ),
     (
@@ -110,7 +129,8 @@ const SOURCES: [(FlowKind, &str, &str); 6] = [
         r#"[1000,"t"] [] 0 [] > [] "t"
 [0,null] [] 0 [] > [] null
 [1,[1]] [] 0 [] > [] [1]
-[1,-1] [] 0 [] > [] -1"#,
+[1,9223372036854775807] [] 0 [] > [] 9223372036854775807
+[1] [] 0 [] > [] null"#,
     ),
     (
         FlowKind::Init,
@@ -128,7 +148,8 @@ const COUNTS: [(FlowKind, &str, &str); 7] = [
         FlowKind::Identity,
         "[false] > []",
         r#"[false] [] 0 [1] > [] 1
-[true] [] 0 ["x"] > [] "x"
+[true] [] 0 ["@1022;"] > [] "@1022;"
+[false] [] 0 [-9223372036854775808] > [] -9223372036854775808
 [false] [] 0 [[1,{"a":null}]] > [] [1,{"a":null}]
 [false] [] 0 [null] > [] null"#,
     ),
@@ -139,6 +160,7 @@ const COUNTS: [(FlowKind, &str, &str); 7] = [
 [500] [false,null] 0 [] > no
 [500] [true,7] 0 [] > [false,null] 7
 [500] [true,7] 1 [9] > no
+[500] [false,null] 1 [9223372036854775807] > [true,9223372036854775807] -
 [500] [1,null] 1 [null] > [true,null] -"#,
     ),
     (
@@ -149,6 +171,7 @@ const COUNTS: [(FlowKind, &str, &str); 7] = [
 [] [-9223372036854775808] 0 [-1] > [-9223372036854775808] null
 [] [9223372036854775807] 0 [-1] > [9223372036854775806] 9223372036854775806
 [] [5] 0 ["4"] > [5] null
+[] [null] 0 [4] > [null] null
 [] [0] 0 [true] > [0] null"#,
     ),
     (
@@ -157,7 +180,8 @@ const COUNTS: [(FlowKind, &str, &str); 7] = [
         r#"[] [0] 0 ["x"] > [1] 1
 [] [41] 0 [null] > [42] 42
 [] [9223372036854775806] 0 [1] > [9223372036854775807] 9223372036854775807
-[] [9223372036854775807] 0 [1] > [9223372036854775807] null"#,
+[] [9223372036854775807] 0 [1] > [9223372036854775807] null
+[] ["1"] 0 [1] > ["1"] null"#,
     ),
     (
         FlowKind::Print,
@@ -184,7 +208,9 @@ const COUNTS: [(FlowKind, &str, &str); 7] = [
 [3] [0] 0 [7] > no
 [1] [0] 0 [7] > [0] 7
 [9223372036854775807] [9223372036854775806] 0 [7] > [0] 7
-[3] [null] 1 [7] > no"#,
+[3] [null] 1 [7] > no
+[null] [0] 0 [7] > no
+[null] [0] 1 [7] > no"#,
     ),
 ];
 
@@ -195,6 +221,7 @@ const ROUTES: [(FlowKind, &str, &str); 7] = [
         r#"[] [] 0 [1] > [] 1
 [] [] 1 ["b"] > [] "b"
 [] [] 0 [null] > [] null
+[] [] 1 [-9223372036854775808] > [] -9223372036854775808
 [] [] 2 [2] > no"#,
     ),
     (
@@ -204,7 +231,10 @@ const ROUTES: [(FlowKind, &str, &str); 7] = [
 [] [0] 1 [1] > no
 [] [1] 1 [2] > [0] 2
 [] [1] 0 [2] > no
-[] [null] 0 [2] > no"#,
+[] [null] 0 [2] > no
+[] [true] 1 [2] > no
+[] [0] 0 ["@1022;"] > [1] "@1022;"
+[] [9223372036854775807] 1 [2] > no"#,
     ),
     (
         FlowKind::Alternate3,
@@ -213,7 +243,9 @@ const ROUTES: [(FlowKind, &str, &str); 7] = [
 [] [1] 1 [2] > [2] 2
 [] [2] 2 [3] > [0] 3
 [] [2] 0 [3] > no
-[] [3] 0 [3] > no"#,
+[] [3] 0 [3] > no
+[] [-1] 0 [3] > no
+[] ["2"] 2 [3] > no"#,
     ),
     (
         FlowKind::Dealternate2,
@@ -221,7 +253,8 @@ const ROUTES: [(FlowKind, &str, &str); 7] = [
         r#"[] [0] 0 [1] > [1] 1 -
 [] [1] 1 [2] > [0] - 2
 [] [0] 1 [2] > no
-[] [true] 0 [2] > no"#,
+[] [true] 0 [2] > no
+[] [1] 1 [9223372036854775807] > [0] - 9223372036854775807"#,
     ),
     (
         FlowKind::Select,
@@ -230,7 +263,8 @@ const ROUTES: [(FlowKind, &str, &str); 7] = [
 [] [] 1 [true,7] > no
 [] [] 1 [false,7] > [] - 7
 [] [] 1 [1,7] > [] - 7
-[] [] 0 [null,7] > no"#,
+[] [] 0 [null,7] > no
+[] [] 0 [true,9223372036854775807] > [] 9223372036854775807 -"#,
     ),
     (
         FlowKind::Switch,
@@ -238,7 +272,9 @@ const ROUTES: [(FlowKind, &str, &str); 7] = [
         r#"[] [] 0 [true,7] > [] 7
 [] [] 1 [false,8] > [] 8
 [] [] 0 [false,7] > no
-[] [] 1 ["true",8] > [] 8"#,
+[] [] 1 [true,8] > no
+[] [] 1 ["true",8] > [] 8
+[] [] 1 [1,-9223372036854775808] > [] -9223372036854775808"#,
     ),
     (
         FlowKind::Valve,
@@ -248,7 +284,10 @@ const ROUTES: [(FlowKind, &str, &str); 7] = [
 [] [true] 1 [7] > [true] 7
 [] [false] 2 [7] > [false] -
 [] [false] 1 [7] > no
-[] [true] 2 [7] > no"#,
+[] [true] 2 [7] > no
+[] [null] 2 [7] > [null] -
+[] [true] 1 ["@1022;"] > [true] "@1022;"
+[] [true] 0 ["true"] > [false] -"#,
     ),
 ];
 
@@ -260,7 +299,9 @@ const LISTS: [(FlowKind, &str, &str); 7] = [
 [1] [] 0 [5] > [] [5]
 [3] [] 0 [1,"a",null] > [] [1,"a",null]
 [2] [] 0 ["@508;","@509;"] > [] ["@508;","@509;"]
-[2] [] 0 ["@509;","@509;"] > [] null"#,
+[2] [] 0 ["@509;","@509;"] > [] null
+[1] [] 0 [[[[[[[[[[[[[[[[]]]]]]]]]]]]]]]] > [] [[[[[[[[[[[[[[[[]]]]]]]]]]]]]]]]
+[1] [] 0 [[[[[[[[[[[[[[[[[]]]]]]]]]]]]]]]]] > [] null"#,
     ),
     (
         FlowKind::Unbatch,
@@ -271,6 +312,9 @@ const LISTS: [(FlowKind, &str, &str); 7] = [
 [] [[]] 1 [[]] > [[]] -
 [] [[]] 1 [5] > [[5]] -
 [] [[1]] 1 [[3]] > no
+[] [7] 0 [] > no
+[] [7] 1 [[3]] > [[3]] -
+[] [[]] 1 [{"a":1}] > [[{"a":1}]] -
 [] [[]] 1 ["@1020;"] > [["@1020;"]] -
 [] [[]] 1 ["@1021;"] > [[null]] -"#,
     ),
@@ -282,7 +326,9 @@ const LISTS: [(FlowKind, &str, &str); 7] = [
 [2] [0] 1 [7] > [0] -
 [2] [1] 1 [7] > no
 [2] [null] 0 [7] > no
-[2] [null] 1 [7] > no"#,
+[2] [null] 1 [7] > no
+[9223372036854775807] [9223372036854775807] 0 [7] > [9223372036854775806] 7
+[2] [-1] 0 [7] > no"#,
     ),
     (
         FlowKind::Skip,
@@ -290,7 +336,9 @@ const LISTS: [(FlowKind, &str, &str); 7] = [
         r#"[2] [2] 0 [7] > [1] -
 [2] [0] 1 [7] > [0] 7
 [2] [0] 0 [7] > no
-[2] [1] 1 [7] > no"#,
+[2] [1] 1 [7] > no
+[2] ["0"] 1 [7] > no
+[9223372036854775807] [9223372036854775807] 0 [7] > [9223372036854775806] -"#,
     ),
     (
         FlowKind::Zip,
@@ -320,13 +368,17 @@ const LISTS: [(FlowKind, &str, &str); 7] = [
 [] [true,1] 0 [1] > no
 [] [true,1] 0 [true] > [true,true] true
 [] [true,{"a":1,"b":2}] 1 [{"b":2,"a":1}] > [true,{"a":1,"b":2}] -
-[] [false,1] 1 [1] > no"#,
+[] [false,1] 1 [1] > no
+[] [true,1] 0 ["1"] > [true,"1"] "1"
+[] [true,9223372036854775807] 1 [9223372036854775807] > [true,9223372036854775807] -
+[] [1,1] 0 [1] > [true,1] 1"#,
     ),
 ];
 
 #[test]
 fn acts_as_its_row_says(rt: HostRuntime) -> Result<(), Fail> {
     for table in [
+        SUM_OVERFLOW.as_slice(),
         SOURCES.as_slice(),
         COUNTS.as_slice(),
         ROUTES.as_slice(),
@@ -346,6 +398,91 @@ fn acts_as_its_row_says(rt: HostRuntime) -> Result<(), Fail> {
                 );
             }
         }
+    }
+    Ok(())
+}
+
+/// What the action needs of each inport, what it gives to each outport, and `*` where it is timed.
+fn action_shape<K: Behave>(alloc: Global, kind: &K, args: &Items, i: u8) -> Result<String, Fail> {
+    let mut told = String::new(alloc);
+    for port in 0..kind.inports() {
+        let needs = kind.needs(args, i, port);
+        told.push_str(format!(in alloc; " {needs}")?.as_str())?;
+    }
+    told.push_str(" >")?;
+    for port in 0..kind.outports() {
+        let gives = kind.gives(i, port);
+        told.push_str(format!(in alloc; " {gives}")?.as_str())?;
+    }
+    if kind.timed(i) {
+        told.push_str(" *")?;
+    }
+    Ok(told)
+}
+
+/// The guard port, the pause, and the shape of each action.
+fn shape<K: Behave>(alloc: Global, kind: &K, args: &Items) -> Result<String, Fail> {
+    let pause = kind.pause(args);
+    let mut told = match kind.guard_port() {
+        Some(port) => format!(in alloc; "{port} {pause}")?,
+        None => format!(in alloc; "- {pause}")?,
+    };
+    for i in 0..kind.actions() {
+        told.push_str(",")?;
+        told.push_str(action_shape(alloc, kind, args, i)?.as_str())?;
+    }
+    Ok(told)
+}
+
+/// The arguments, then the shape.
+const SHAPES: [(FlowKind, &str); 31] = [
+    (FlowKind::Constant, "[5,3] = - 0, > 1"),
+    (FlowKind::Counter, "[1] = - 0, > 1"),
+    (FlowKind::CountTimer, "[100,1,3] = - 100, > 1 *"),
+    (FlowKind::Identity, "[false] = - 0, 1 > 1"),
+    (FlowKind::Sequence, "[[4,5]] = - 0, > 1"),
+    (FlowKind::Trigger, "[1000,7] = - 1000, > 1 *"),
+    (FlowKind::Delay, "[500] = - 500, 0 > 1 *, 1 > 0"),
+    (FlowKind::Sum, "[] = - 0, 1 > 1"),
+    (FlowKind::Tally, "[] = - 0, 1 > 1"),
+    (FlowKind::Print, "[] = - 0, 1 >"),
+    (FlowKind::Terminator, "[] = - 0, 1 >"),
+    (FlowKind::Init, "[5] = - 0, 0 > 1, 1 > 1"),
+    (FlowKind::Join, "[] = - 0, 1 0 > 1, 0 1 > 1"),
+    (FlowKind::Alternate2, "[] = - 0, 1 0 > 1, 0 1 > 1"),
+    (
+        FlowKind::Alternate3,
+        "[] = - 0, 1 0 0 > 1, 0 1 0 > 1, 0 0 1 > 1",
+    ),
+    (FlowKind::Dealternate2, "[] = - 0, 1 > 1 0, 1 > 0 1"),
+    (FlowKind::Select, "[] = 0 0, 1 1 > 1 0, 1 1 > 0 1"),
+    (FlowKind::Switch, "[] = 0 0, 1 1 0 > 1, 1 0 1 > 1"),
+    (FlowKind::Batch, "[2] = - 0, 2 > 1"),
+    (FlowKind::Unbatch, "[] = - 0, 0 > 1, 1 > 0"),
+    (FlowKind::Take, "[2] = - 0, 1 > 1, 1 > 0"),
+    (FlowKind::Skip, "[2] = - 0, 1 > 0, 1 > 1"),
+    (FlowKind::Every, "[3] = - 0, 1 > 1, 1 > 0"),
+    (FlowKind::Valve, "[] = - 0, 1 0 > 0, 0 1 > 1, 0 1 > 0"),
+    (FlowKind::Zip, "[] = - 0, 1 1 > 1"),
+    (FlowKind::Unzip, "[] = - 0, 1 > 1 1"),
+    (FlowKind::Change, "[] = 0 0, 1 > 1, 1 > 0"),
+    (FlowKind::Batch, "[64] = - 0, 64 > 1"),
+    (FlowKind::Batch, "[65] = - 0, 1 > 1"),
+    (FlowKind::Delay, "[-1] = - 0, 0 > 1 *, 1 > 0"),
+    (
+        FlowKind::Trigger,
+        "[9223372036854775807] = - 9223372036854775807, > 1 *",
+    ),
+];
+
+#[test]
+fn has_the_shape_of_its_row(rt: HostRuntime) -> Result<(), Fail> {
+    for (kind, line) in SHAPES {
+        let (args, want) = line.split_once(" = ").ok_or("two parts")?;
+        let told = shape(rt.alloc(), &kind, &list(rt.alloc(), args)?)?;
+        assert_eq!(rt; told.as_str(), want, "{kind:?}");
+        let is_alone = kind != FlowKind::Join && kind != FlowKind::Valve;
+        assert_eq!(rt; kind.is_deterministic(), is_alone, "{kind:?}");
     }
     Ok(())
 }
