@@ -35,17 +35,7 @@ abbrev headed : List (List Token) → Token
 headed inputs = unwrap_or (first_of inputs 0) token.Null
 
 pub at_most_one : (k : FlowKind) → k ≢ kind.Join → k ≢ kind.Valve → Deterministic (row_of k)
-at_most_one kind.Constant a b args state inputs i j l d e = one_alone i j _ (and_parts _ _ d).1 (and_parts _ _ e).1
-at_most_one kind.Counter a b args state inputs i j l d e = one_alone i j _ (and_parts _ _ d).1 (and_parts _ _ e).1
-at_most_one kind.CountTimer a b args state inputs i j l d e = one_alone i j _ (and_parts _ _ d).1 (and_parts _ _ e).1
-at_most_one kind.Identity a b args state inputs i j l d e = one_alone i j _ (and_parts _ _ d).1 (and_parts _ _ e).1
-at_most_one kind.Sequence a b args state inputs i j l d e = one_alone i j _ (and_parts _ _ d).1 (and_parts _ _ e).1
-at_most_one kind.Trigger a b args state inputs i j l d e = one_alone i j _ (and_parts _ _ d).1 (and_parts _ _ e).1
 at_most_one kind.Delay a b args state inputs i j l d e = two_alone i j _ _ (not_both (is_true (item_of state 0))) (and_parts _ _ d).1 (and_parts _ _ e).1
-at_most_one kind.Sum a b args state inputs i j l d e = one_alone i j _ (and_parts _ _ d).1 (and_parts _ _ e).1
-at_most_one kind.Tally a b args state inputs i j l d e = one_alone i j _ (and_parts _ _ d).1 (and_parts _ _ e).1
-at_most_one kind.Print a b args state inputs i j l d e = one_alone i j _ (and_parts _ _ d).1 (and_parts _ _ e).1
-at_most_one kind.Terminator a b args state inputs i j l d e = one_alone i j _ (and_parts _ _ d).1 (and_parts _ _ e).1
 at_most_one kind.Init a b args state inputs i j l d e = two_alone i j _ _ (not_both_swapped (is_true (item_of state 0))) (and_parts _ _ d).1 (and_parts _ _ e).1
 at_most_one kind.Join a b args state inputs i j l d e = absurd (a refl)
 at_most_one kind.Alternate2 a b args state inputs i j l d e = two_alone i j _ _ (numbers_apart 0 1 (item_of state 0) (λ q. omega arith)) (and_parts _ _ d).1 (and_parts _ _ e).1
@@ -54,15 +44,13 @@ at_most_one kind.Alternate3 a b args state inputs i j l d e =
 at_most_one kind.Dealternate2 a b args state inputs i j l d e = two_alone i j _ _ (numbers_apart 0 1 (item_of state 0) (λ q. omega arith)) (and_parts _ _ d).1 (and_parts _ _ e).1
 at_most_one kind.Select a b args state inputs i j l d e = two_alone i j _ _ (not_both (is_true (headed inputs))) (and_parts _ _ d).1 (and_parts _ _ e).1
 at_most_one kind.Switch a b args state inputs i j l d e = two_alone i j _ _ (not_both (is_true (headed inputs))) (and_parts _ _ d).1 (and_parts _ _ e).1
-at_most_one kind.Batch a b args state inputs i j l d e = one_alone i j _ (and_parts _ _ d).1 (and_parts _ _ e).1
 at_most_one kind.Unbatch a b args state inputs i j l d e = two_alone i j _ _ (not_both_swapped (is_empty (item_of state 0))) (and_parts _ _ d).1 (and_parts _ _ e).1
 at_most_one kind.Take a b args state inputs i j l d e = two_alone i j _ _ (zero_apart (item_of state 0)) (and_parts _ _ d).1 (and_parts _ _ e).1
 at_most_one kind.Skip a b args state inputs i j l d e = two_alone i j _ _ (zero_apart (item_of state 0)) (and_parts _ _ d).1 (and_parts _ _ e).1
 at_most_one kind.Every a b args state inputs i j l d e = two_alone i j _ _ (rounds_apart (item_of state 0) (item_of args 0)) (and_parts _ _ d).1 (and_parts _ _ e).1
 at_most_one kind.Valve a b args state inputs i j l d e = absurd (b refl)
-at_most_one kind.Zip a b args state inputs i j l d e = one_alone i j _ (and_parts _ _ d).1 (and_parts _ _ e).1
-at_most_one kind.Unzip a b args state inputs i j l d e = one_alone i j _ (and_parts _ _ d).1 (and_parts _ _ e).1
 at_most_one kind.Change a b args state inputs i j l d e = two_alone i j _ _ (not_both_swapped (is_repeated state (headed inputs))) (and_parts _ _ d).1 (and_parts _ _ e).1
+at_most_one k a b args state inputs i j l d e = one_alone i j _ (and_parts _ _ d).1 (and_parts _ _ e).1
 
 -- one token in each of two inports
 abbrev each_one : List (List Token)
