@@ -70,12 +70,17 @@ false > false
 -9223372036854775808 > -9223372036854775808
 "\"\\\/\b\f\n\r\t" > "\"\\/\b\f\n\r\t"
 "\u0041\u00e9\u20AC" > "Aé€"
-"\u0000\u001F\u000b" > "\u0000\u001f\u000b"
-"\u0008\u0009\u000A\u000c\u000D\u0022\u005c" > "\b\t\n\f\r\"\\"
+"\u0022\u005C\u002f" > "\"\\/"
+"\u0000\u0001\u0002\u0003\u0004\u0005\u0006\u0007" > "\u0000\u0001\u0002\u0003\u0004\u0005\u0006\u0007"
+"\u0008\u0009\u000A\u000B\u000C\u000D\u000E\u000F" > "\b\t\n\u000b\f\r\u000e\u000f"
+"\u0010\u0011\u0012\u0013\u0014\u0015\u0016\u0017" > "\u0010\u0011\u0012\u0013\u0014\u0015\u0016\u0017"
+"\u0018\u0019\u001A\u001B\u001C\u001D\u001E\u001F" > "\u0018\u0019\u001a\u001b\u001c\u001d\u001e\u001f"
 "\ud83d\ude00\uD834\uDD1E" > "😀𝄞"
 "/é😀" > "/é😀"
 {"a":1,"a":2} > {"a":2}
 {"a":1.5,"a":1} > {"a":1}
+{"a":[1.5,{"b":-0}],"c":0,"a":null} > {"a":null,"c":0}
+[{"b":1,"a":{"d":1,"c":2,"d":3}},{"a":0,"a":0}] > [{"a":{"c":2,"d":3},"b":1},{"a":0}]
 {"":0,"b":[],"\u0062":null} > {"":0,"b":null}
 {"😀":1,"\uffff":2,"z":3,"Z":4,"é":5,"aa":6,"a":7,"":8} > {"":8,"Z":4,"a":7,"aa":6,"z":3,"é":5,"￿":2,"😀":1}"#;
 
@@ -164,17 +169,21 @@ fn refuses_what_is_not_json(rt: HostRuntime) -> Result<(), Fail> {
         assert_eq!(rt; outcome(rt.alloc(), text.as_bytes())?.as_str(), "NotJson");
         assert_eq!(rt; tree_outcome(rt.alloc(), text.as_bytes())?.as_str(), "None");
     }
+    // an integer past the largest float
+    let past = repeated(rt.alloc(), "1", "0", 400, "")?;
+    assert_eq!(rt; outcome(rt.alloc(), past.as_bytes())?.as_str(), "NotJson");
     // raw control bytes, other spaces, a byte order mark
     for text in "\"\u{1}\";\"\n\";\"\t\";\"\u{1f}\";\"\0\";\u{c}1;\u{a0}1;\u{feff}1; ".split(';') {
         assert_eq!(rt; outcome(rt.alloc(), text.as_bytes())?.as_str(), "NotJson");
     }
-    // no UTF-8: a lone byte, too long a form, a surrogate, past the last character, cut short
-    let cases: [&[u8]; 5] = [
+    // no UTF-8: a lone byte, too long a form, a surrogate, past the last character, cut short, behind the text
+    let cases: [&[u8]; 6] = [
         b"\"\xff\"",
         b"\"\xc0\x80\"",
         b"\"\xed\xa0\x80\"",
         b"\"\xf4\x90\x80\x80\"",
         b"\"\xc3",
+        b"[1]\xff",
     ];
     for bytes in cases {
         assert_eq!(rt; outcome(rt.alloc(), bytes)?.as_str(), "NotJson");
@@ -258,6 +267,7 @@ fn tells_the_first_fault(rt: HostRuntime) -> Result<(), Fail> {
     let deep_and_large = repeated(alloc, "[", deep.as_str(), 1, "")?;
     let deep_and_large = repeated(alloc, deep_and_large.as_str(), ",1", 1000, "]")?;
     let unended = wrapped(alloc, "[", "1.5", "", 17)?;
+    let replaced = repeated(alloc, "{\"a\":", deep.as_str(), 1, ",\"a\":1}")?;
     assert_eq!(rt; outcome(alloc, deep.as_bytes())?.as_str(), "TooDeep");
     assert_eq!(rt; outcome(alloc, large.as_bytes())?.as_str(), "BadNumber");
     assert_eq!(rt;
@@ -265,6 +275,7 @@ fn tells_the_first_fault(rt: HostRuntime) -> Result<(), Fail> {
         "TooDeep"
     );
     assert_eq!(rt; outcome(alloc, unended.as_bytes())?.as_str(), "NotJson");
+    assert_eq!(rt; outcome(alloc, replaced.as_bytes())?.as_str(), "{\"a\":1}");
     Ok(())
 }
 
