@@ -39,121 +39,123 @@ fn shown(rt: &impl Abort, alloc: Global, source: &str) -> Result<String, AllocEr
     Ok(text)
 }
 
+/// Texts, each with its lexemes.
+const LEXEMES: [(&str, &str); 42] = [
+    ("", ""),
+    (" \t\r\n", ""),
+    (
+        "a : std.Constant(data=1)",
+        "n0+1 m2+1 n4+3 m7+1 n8+8 m16+1 n17+4 m21+1 i22+1 m23+1 ",
+    ),
+    ("a.b>c.d", "n0+1 m1+1 n2+1 m3+1 n4+1 m5+1 n6+1 "),
+    ("12abc", "i0+2 n2+3 "),
+    ("1.x", "i0+1 m1+1 n2+1 "),
+    ("1.2.3", "f0+3 m3+1 i4+1 "),
+    ("1.", "i0+1 m1+1 "),
+    (".5", "m0+1 i1+1 "),
+    ("-5", "i0+2 "),
+    ("-0 007", "i0+2 i3+3 "),
+    ("-9223372036854775808", "i0+20 "),
+    ("9223372036854775807", "i0+19 "),
+    ("99999999999999999999.5", "f0+22 "),
+    ("-1.50", "f0+5 "),
+    ("a->b", "n0+1 m1+2 n3+1 "),
+    ("1->b", "i0+1 m1+2 n3+1 "),
+    (
+        "(){}[],:.=>&|~",
+        "m0+1 m1+1 m2+1 m3+1 m4+1 m5+1 m6+1 m7+1 m8+1 m9+1 m10+1 m11+1 m12+1 m13+1 ",
+    ),
+    ("\"\"", "t0+2 "),
+    ("\"\" \"\"", "t0+2 t3+2 "),
+    ("\"a b\"", "t0+5 "),
+    ("\"\\\"\"", "t0+4 "),
+    ("\"\\\\\"", "t0+4 "),
+    ("\"\\/\"", "t0+4 "),
+    ("\"é\"", "t0+4 "),
+    ("\"\n\t\u{1}\"", "t0+5 "),
+    ("\"\\u00e9\"", "t0+8 "),
+    ("\"\\uD83D\\uDE00\"", "t0+14 "),
+    ("\"/* no */\"", "t0+10 "),
+    ("// all", ""),
+    ("// all\r a", ""),
+    ("a//b\nc", "n0+1 n5+1 "),
+    ("/**/a", "n4+1 "),
+    ("/*/ */a", "n6+1 "),
+    ("a/* * / **/b", "n0+1 n11+1 "),
+    ("\"\"\"x\"\"\"", ""),
+    ("\"\"\"a\"b\"\"c\"\"\"d", "n12+1 "),
+    ("data=\"\"\"x\"\"\"", "n0+4 m4+1 "),
+    ("\"\"\"\"\"\"a", "n6+1 "),
+    ("a_1 _b9", "n0+3 n4+3 "),
+    (
+        "true false null component define rule apply voidport",
+        "n0+4 n5+5 n11+4 n16+9 n26+6 n33+4 n38+5 n44+8 ",
+    ),
+    (
+        "n234567890123456789012345678901234567890123456789012345678901234",
+        "n0+64 ",
+    ),
+];
+
 #[test]
 fn lexemes_of_small_texts(rt: HostRuntime) -> Result<(), Fail> {
-    let rows = [
-        ("", ""),
-        (" \t\r\n", ""),
-        (
-            "a : std.Constant(data=1)",
-            "n0+1 m2+1 n4+3 m7+1 n8+8 m16+1 n17+4 m21+1 i22+1 m23+1 ",
-        ),
-        ("a.b>c.d", "n0+1 m1+1 n2+1 m3+1 n4+1 m5+1 n6+1 "),
-        ("12abc", "i0+2 n2+3 "),
-        ("1.x", "i0+1 m1+1 n2+1 "),
-        ("1.2.3", "f0+3 m3+1 i4+1 "),
-        ("1.", "i0+1 m1+1 "),
-        (".5", "m0+1 i1+1 "),
-        ("-5", "i0+2 "),
-        ("-0 007", "i0+2 i3+3 "),
-        ("-9223372036854775808", "i0+20 "),
-        ("9223372036854775807", "i0+19 "),
-        ("99999999999999999999.5", "f0+22 "),
-        ("-1.50", "f0+5 "),
-        ("a->b", "n0+1 m1+2 n3+1 "),
-        ("1->b", "i0+1 m1+2 n3+1 "),
-        (
-            "(){}[],:.=>&|~",
-            "m0+1 m1+1 m2+1 m3+1 m4+1 m5+1 m6+1 m7+1 m8+1 m9+1 m10+1 m11+1 m12+1 m13+1 ",
-        ),
-        ("\"\"", "t0+2 "),
-        ("\"\" \"\"", "t0+2 t3+2 "),
-        ("\"a b\"", "t0+5 "),
-        ("\"\\\"\"", "t0+4 "),
-        ("\"\\\\\"", "t0+4 "),
-        ("\"\\/\"", "t0+4 "),
-        ("\"é\"", "t0+4 "),
-        ("\"\n\t\u{1}\"", "t0+5 "),
-        ("\"\\u00e9\"", "t0+8 "),
-        ("\"\\uD83D\\uDE00\"", "t0+14 "),
-        ("\"/* no */\"", "t0+10 "),
-        ("// all", ""),
-        ("// all\r a", ""),
-        ("a//b\nc", "n0+1 n5+1 "),
-        ("/**/a", "n4+1 "),
-        ("/*/ */a", "n6+1 "),
-        ("a/* * / **/b", "n0+1 n11+1 "),
-        ("\"\"\"x\"\"\"", ""),
-        ("\"\"\"a\"b\"\"c\"\"\"d", "n12+1 "),
-        ("data=\"\"\"x\"\"\"", "n0+4 m4+1 "),
-        ("\"\"\"\"\"\"a", "n6+1 "),
-        ("a_1 _b9", "n0+3 n4+3 "),
-        (
-            "true false null component define rule apply voidport",
-            "n0+4 n5+5 n11+4 n16+9 n26+6 n33+4 n38+5 n44+8 ",
-        ),
-        (
-            "n234567890123456789012345678901234567890123456789012345678901234",
-            "n0+64 ",
-        ),
-    ];
-    for row in rows {
-        let (source, expected) = row;
+    for (source, expected) in LEXEMES {
         assert_eq!(rt; shown(&rt, rt.alloc(), source)?.as_str(), expected);
     }
     Ok(())
 }
 
+/// Texts, each with its first fault.
+const FAULTS: [(&str, &str); 35] = [
+    ("- >", "BadChar 0"),
+    ("a - b", "BadChar 2"),
+    ("-", "BadChar 0"),
+    ("-a", "BadChar 0"),
+    ("a;b", "BadChar 1"),
+    ("aé", "BadChar 1"),
+    ("a\u{b}", "BadChar 1"),
+    ("a\u{c}", "BadChar 1"),
+    ("a\u{a0}", "BadChar 1"),
+    ("a/b", "BadChar 1"),
+    ("/", "BadChar 0"),
+    ("\"", "OpenText 0"),
+    ("a : std.Constant(data=\"x", "OpenText 22"),
+    ("\"\\\"", "OpenText 0"),
+    ("data=\"\\q", "OpenText 5"),
+    ("\"ab\\q\"", "BadEscape 3"),
+    ("\"\\u\"", "BadEscape 1"),
+    ("\"\\u12G4\"", "BadEscape 1"),
+    ("\"\\U0041\"", "BadEscape 1"),
+    ("\"\\uD800\"", "BadEscape 1"),
+    ("\"a\\uDC00\"", "BadEscape 2"),
+    ("\"\\uD800\\uD800\"", "BadEscape 1"),
+    ("\"\\uD83Dx\"", "BadEscape 1"),
+    ("a \"\\n\\x\"", "BadEscape 5"),
+    ("/*/", "OpenComment 0"),
+    ("a /* b", "OpenComment 2"),
+    ("\"\"\"x\"\"", "OpenComment 0"),
+    ("\"\"\"\"\"", "OpenComment 0"),
+    ("9223372036854775808", "WideNumber 0"),
+    ("a=-9223372036854775809", "WideNumber 2"),
+    (
+        "a : std.Constant(data=9223372036854775808)",
+        "WideNumber 22",
+    ),
+    ("9223372036854775808 $", "WideNumber 0"),
+    ("$ 9223372036854775808", "BadChar 0"),
+    (
+        "n2345678901234567890123456789012345678901234567890123456789012345",
+        "LongName 0",
+    ),
+    (
+        "a n2345678901234567890123456789012345678901234567890123456789012345.",
+        "LongName 2",
+    ),
+];
+
 #[test]
 fn first_faults(rt: HostRuntime) -> Result<(), Fail> {
-    let rows = [
-        ("- >", "BadChar 0"),
-        ("a - b", "BadChar 2"),
-        ("-", "BadChar 0"),
-        ("-a", "BadChar 0"),
-        ("a;b", "BadChar 1"),
-        ("aé", "BadChar 1"),
-        ("a\u{b}", "BadChar 1"),
-        ("a\u{c}", "BadChar 1"),
-        ("a\u{a0}", "BadChar 1"),
-        ("a/b", "BadChar 1"),
-        ("/", "BadChar 0"),
-        ("\"", "OpenText 0"),
-        ("a : std.Constant(data=\"x", "OpenText 22"),
-        ("\"\\\"", "OpenText 0"),
-        ("data=\"\\q", "OpenText 5"),
-        ("\"ab\\q\"", "BadEscape 3"),
-        ("\"\\u\"", "BadEscape 1"),
-        ("\"\\u12G4\"", "BadEscape 1"),
-        ("\"\\U0041\"", "BadEscape 1"),
-        ("\"\\uD800\"", "BadEscape 1"),
-        ("\"a\\uDC00\"", "BadEscape 2"),
-        ("\"\\uD800\\uD800\"", "BadEscape 1"),
-        ("\"\\uD83Dx\"", "BadEscape 1"),
-        ("a \"\\n\\x\"", "BadEscape 5"),
-        ("/*/", "OpenComment 0"),
-        ("a /* b", "OpenComment 2"),
-        ("\"\"\"x\"\"", "OpenComment 0"),
-        ("\"\"\"\"\"", "OpenComment 0"),
-        ("9223372036854775808", "WideNumber 0"),
-        ("a=-9223372036854775809", "WideNumber 2"),
-        (
-            "a : std.Constant(data=9223372036854775808)",
-            "WideNumber 22",
-        ),
-        ("9223372036854775808 $", "WideNumber 0"),
-        ("$ 9223372036854775808", "BadChar 0"),
-        (
-            "n2345678901234567890123456789012345678901234567890123456789012345",
-            "LongName 0",
-        ),
-        (
-            "a n2345678901234567890123456789012345678901234567890123456789012345.",
-            "LongName 2",
-        ),
-    ];
-    for row in rows {
-        let (source, expected) = row;
+    for (source, expected) in FAULTS {
         assert_eq!(rt; shown(&rt, rt.alloc(), source)?.as_str(), expected);
     }
     Ok(())
