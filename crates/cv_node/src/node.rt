@@ -64,14 +64,11 @@ impl Node {
         let actors = starting_actors(alloc, net.connections(), net.actors())?;
         let connections = Vec::from_slice(alloc, net.connections())?;
         make_room(&mut self.entries)?;
-        self.stamp += 1;
         self.deployed = true;
         self.connections = connections;
         self.actors = actors;
-        self.entries.push_reserved(Entry {
-            stamp: self.stamp,
-            event: Event::Deploy { name, net },
-        });
+        let event = Event::Deploy { name, net };
+        append(&mut self.stamp, &mut self.entries, event);
         Ok(())
     }
 
@@ -103,13 +100,8 @@ impl Node {
         if !move_token(self.connections.as_slice(), &mut self.actors, place) {
             return Ok(false);
         }
-        self.stamp += 1;
-        self.entries.push_reserved(Entry {
-            stamp: self.stamp,
-            event: Event::Pass {
-                conn: connection(place),
-            },
-        });
+        let conn = connection(place);
+        append(&mut self.stamp, &mut self.entries, Event::Pass { conn });
         Ok(true)
     }
 
@@ -125,14 +117,11 @@ impl Node {
         if !fire_actor(alloc, &mut self.actors, place, action)? {
             return Ok(false);
         }
-        self.stamp += 1;
-        self.entries.push_reserved(Entry {
-            stamp: self.stamp,
-            event: Event::Fire {
-                actor: actor(place),
-                action,
-            },
-        });
+        let event = Event::Fire {
+            actor: actor(place),
+            action,
+        };
+        append(&mut self.stamp, &mut self.entries, event);
         Ok(true)
     }
 }
@@ -156,6 +145,20 @@ fn make_room(entries: &mut Vec<Entry>) -> Result<(), OutOfMemory>
         return Err(AllocError);
     }
     entries.reserve(1)
+}
+
+/// Appends an entry of the event, stamped with the number after the greatest stamp so far, into the room that was made.
+fn append(stamp: &mut u64, entries: &mut Vec<Entry>, event: Event)
+    requires room { vec_len entries.old < vec_capacity entries.old }
+    requires low { stamp.old < 2 ^ 62 }
+    ensures stamp { stamp.new ≡ stamp.old + 1 }
+    ensures entry { entries.new.items ≡ entries.old.items ++ record { stamp = stamp.old + 1; event = event } ∷ [] }
+{
+    *stamp += 1;
+    entries.push_reserved(Entry {
+        stamp: *stamp,
+        event,
+    });
 }
 
 /// The identifier of an actor of the run's application.

@@ -11,5 +11,5 @@ invariant_of-self-2 c =
     let fresh : c.self.inside.deployed ≡ false = ap (λ (j : Journalled). j.state.deployed) c.self.view_is ∙ c.requires in
     let start = rw (c.connections.ensures.value, c.actors.ensures.value) at c.in_ok-actors.ensures.actors in
     let small : length c.in_ok-actors.actors.items ≤ 256 = omega (arith, c.in_ok-actors.ensures.len, c.actors.ensures.few) in
-    rw (c.push_reserved.ensures.items, c.make_room.ensures.items, c.in_ok-connections.ensures.items, c.connections-2.ensures.value)
+    rw (c.append.ensures.stamp, c.append.ensures.entry, c.make_room.ensures.items, c.in_ok-connections.ensures.items, c.connections-2.ensures.value)
     (replay_deploy before c.self.inside.entries.items c.args.name c.args.net c.in_ok-actors.actors.items c.self.invariant few small (rw c.connections-2.ensures.value at c.connections-2.ensures.few) fresh start)
