@@ -2,9 +2,29 @@
 #![tactic(auto)]
 
 use cv_io::{MemSink, MemSource, OpenGate};
-use cv_top::calvin;
+use cv_top::{Outcome, calvin};
 use std::alloc::{AllocError, Global};
 use std::thread::Threads;
+
+#[cfg(test)]
+mod networks;
+#[cfg(test)]
+mod reading;
+
+/// The answer of the top call on these words, source and sink.
+pub fn answer<R: Threads + Sync>(
+    rt: &R,
+    alloc: Global,
+    words: &[&str],
+    source: &mut MemSource,
+    sink: &mut MemSink,
+) -> Result<Outcome, AllocError> {
+    let mut list = Vec::new(alloc);
+    for word in words {
+        list.push(String::from_str(alloc, word)?)?;
+    }
+    Ok(calvin(rt, alloc, list.as_slice(), source, sink, &OpenGate))
+}
 
 /// The status of the top call on these words, source and sink.
 pub fn status<R: Threads + Sync>(
@@ -14,11 +34,7 @@ pub fn status<R: Threads + Sync>(
     source: &mut MemSource,
     sink: &mut MemSink,
 ) -> Result<u8, AllocError> {
-    let mut list = Vec::new(alloc);
-    for word in words {
-        list.push(String::from_str(alloc, word)?)?;
-    }
-    Ok(calvin(rt, alloc, list.as_slice(), source, sink, &OpenGate).status)
+    Ok(answer(rt, alloc, words, source, sink)?.status)
 }
 
 #[cfg(test)]
