@@ -67,12 +67,13 @@ impl Solo {
         })
     }
 
-    /// Fires an action of an actor. Neither space nor priority nor time is looked at. After want of memory the
-    /// machine is of no more use.
+    /// Fires an action of an actor. Neither space nor priority nor time is looked at. A firing that is not enabled changes
+    /// nothing; after want of memory the machine is of no more use.
     pub fn fire(&mut self, alloc: Global, actor: u16, action: u8) -> Result<(), SoloFault>
         ensures net { self.new.net ≡ self.old.net }
         ensures fired { OnOk result (fire self.old.net self.old.runtime actor action ≡ Some self.new.runtime) }
         ensures not_enabled { result ≡ Err SoloFault.NotEnabled → fire self.old.net self.old.runtime actor action ≡ None }
+        ensures unchanged { result ≡ Err SoloFault.NotEnabled → self.new ≡ self.old }
     {
         let Some(spec) = self.net.actors().get(actor as usize) else {
             return Err(SoloFault::NotEnabled)
@@ -119,6 +120,7 @@ fn fire_one(
     ensures len { vec_len streams.new ≡ vec_len streams.old }
     ensures fired { OnOk result (FiresOne spec.now joins.now actor action slots.old streams.old.items slots.new streams.new.items) }
     ensures not_enabled { result ≡ Err SoloFault.NotEnabled → ready_of spec.now joins.now actor action slots.old streams.old.items ≡ false }
+    ensures unchanged { result ≡ Err SoloFault.NotEnabled → (slots.new ≡ slots.old) × (streams.new.items ≡ streams.old.items) }
 {
     if !is_ready(spec, joins, streams.as_slice(), slots, actor, action) {
         return Err(SoloFault::NotEnabled);
