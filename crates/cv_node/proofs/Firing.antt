@@ -7,8 +7,8 @@ use Rattle.std.proofs.lemmas.List.{drop-drop}
 use Rattle.cv_token.specs.declared.token.Token.{Token}
 use Rattle.cv_kinds.specs.declared.kind.Kind.{Kind}
 use Rattle.cv_kinds.specs.declared.kind.Kind.TheVariants.{Constant, Identity, Print}
-use Rattle.cv_kinds.specs.KindRow.{effect_of, outport_count, given}
-use Rattle.cv_node.specs.LiveState.{LiveState, has_space, takes_more, can_fire}
+use Rattle.cv_kinds.specs.KindRow.{effect_of, outport_count}
+use Rattle.cv_node.specs.LiveState.{LiveState, has_space, can_fire}
 use Rattle.cv_kinds.specs.declared.network.Join.{Join}
 use Rattle.cv_node.specs.NodeRow.{is_joined, joined_from}
 use Rattle.cv_node.specs.Room.{has_room_for}

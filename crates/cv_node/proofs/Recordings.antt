@@ -1,5 +1,5 @@
 -- What a node journalled after one deployment and one run is the record of a run of that network.
-use Rattle.std.proofs.Common.{◌≡◌, ℕ, ◌+◌, ◌<◌, List, [], ◌∷◌, ◌++◌, map, take, length, codes, Some, refl, ap, sym, ◌∙◌, subst, arith}
+use Rattle.std.proofs.Common.{◌≡◌, ℕ, ◌+◌, ◌<◌, List, [], ◌∷◌, ◌++◌, map, take, length, codes, Some, refl, ap, ◌∙◌, subst, arith}
 use Rattle.cv_kinds.specs.Net.{Net}
 use Rattle.cv_node.specs.declared.event.Entry.{Entry}
 use Rattle.cv_node.specs.declared.event.Event.TheVariants as event

@@ -4,8 +4,6 @@ use Rattle.std.specs.Option.{option_map_or}
 use Rattle.std.specs.List.{list_any}
 use Rattle.cv_token.specs.declared.token.Token.{Token}
 use Rattle.cv_token.specs.declared.identifiers.AppId.{AppId}
-use Rattle.cv_token.specs.declared.identifiers.ActorId.{ActorId}
-use Rattle.cv_token.specs.declared.identifiers.ConnId.{ConnId}
 use Rattle.cv_kinds.specs.declared.network.ActorSpec.{ActorSpec}
 use Rattle.cv_kinds.specs.declared.network.Join.{Join}
 use Rattle.cv_kinds.specs.Net.{Net}

@@ -1,6 +1,5 @@
 -- The record of a run of one node, and what its end says.
 use Rattle.std.specs.Prelude.{◌≡◌, ℕ, ◌<◌, List, [], ◌∷◌, map, take, Some, codes}
-use Rattle.cv_token.specs.declared.pairs.Pair.{Pair}
 use Rattle.cv_kinds.specs.Net.{Net}
 use Rattle.cv_node.specs.declared.event.Entry.{Entry}
 use Rattle.cv_node.specs.declared.event.Event.TheVariants as event

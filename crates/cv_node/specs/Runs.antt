@@ -1,5 +1,5 @@
 -- What a run leaves: how many firings its journal has, and when nothing more can happen.
-use Rattle.std.specs.Prelude.{◌≡◌, ℕ, ◌+◌, ◌<◌, ◌≤◌, ◌^◌, Bool, true, false, List, length, take, count_by, slice_get, Some, None, ◌⊎◌}
+use Rattle.std.specs.Prelude.{◌≡◌, ℕ, ◌+◌, ◌<◌, Bool, true, false, List, length, take, count_by, slice_get, Some, None, ◌⊎◌}
 use Rattle.cv_kinds.specs.declared.network.Join.{Join}
 use Rattle.cv_node.specs.declared.event.Entry.{Entry}
 use Rattle.cv_node.specs.declared.event.Event.{Event}

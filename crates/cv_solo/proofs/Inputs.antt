@@ -1,7 +1,6 @@
 -- The inputs of an actor, one port after the other.
 use Rattle.std.proofs.Common.{◌≡◌, ℕ, suc, ◌+◌, ◌-◌, ◌<◌, ◌≤◌, List, [], ◌∷◌, length, drop, refl, arith, add-one}
 use Rattle.std.proofs.Math.ListN.{drop_of_length-le}
-use Rattle.cv_token.specs.declared.token.Token.{Token}
 use Rattle.cv_kinds.specs.declared.network.Join.{Join}
 use Rattle.cv_solo.specs.declared.stream.Stream.{Stream}
 use Rattle.cv_solo.specs.OneRuntime.{waiting, inputs_from}

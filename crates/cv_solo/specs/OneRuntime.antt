@@ -1,7 +1,6 @@
 -- One runtime that fires actions one after the other: unbounded lists, no space, no priority, no time.
 use Rattle.std.specs.Prelude.{◌≡◌, ℕ, zero, suc, ◌+◌, ◌-◌, min, length, Bool, true, false, ◌==◌, ◌&&◌, if◌then◌else◌, List, [], ◌∷◌, ◌++◌, drop, map, replicate, slice_get, slice_set, unwrap_or, Option, Some, None, option_and_then}
 use Rattle.cv_token.specs.declared.token.Token.{Token}
-use Rattle.cv_kinds.specs.declared.kind.Kind.{Kind}
 use Rattle.cv_kinds.specs.declared.kind.Effect.{Effect}
 use Rattle.cv_kinds.specs.declared.network.ActorSpec.{ActorSpec}
 use Rattle.cv_kinds.specs.declared.network.Join.{Join}

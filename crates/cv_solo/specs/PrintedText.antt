@@ -1,5 +1,5 @@
 -- The text that the prints of a network have printed.
-use Rattle.std.specs.Prelude.{◌≡◌, ℕ, suc, IsPermutation, IsSorted, ◌==◌, ◌&&◌, if◌then◌else◌, List, [], ◌∷◌, ◌++◌, take, slice_get, Option, Some, None}
+use Rattle.std.specs.Prelude.{◌≡◌, ℕ, suc, IsPermutation, IsSorted, ◌==◌, ◌&&◌, if◌then◌else◌, List, [], ◌∷◌, ◌++◌, take}
 use Rattle.std.specs.List.{flat_map}
 use Rattle.cv_token.specs.declared.token.Token.{Token}
 use Rattle.cv_token.specs.Spelling.{spelling}

@@ -1,4 +1,4 @@
-use Rattle.std.proofs.Common.{[], ◌∷◌, ◌++◌, List, sym, subst, refl, codes, ap, ◌∙◌, ◌≡◌}
+use Rattle.std.proofs.Common.{[], ◌∷◌, ◌++◌, List, sym, subst, refl}
 use Rattle.cv_token.specs.Rising.{AreRising}
 use Rattle.cv_token.specs.declared.pairs.Pair.{Pair}
 use Rattle.cv_token.proofs.Rises.{AreRising-from_test}
