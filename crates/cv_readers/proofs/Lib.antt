@@ -9,3 +9,4 @@ pub mod Places
 pub mod Marks
 pub mod Listings
 pub mod Kepts
+pub mod Asides

@@ -31,19 +31,19 @@ use Rattle.cv_syntax.proofs.Pieces.{Any, still, match_reads, name_self}
 
 -- ---- words and wholeness, one level down
 
-slots-Not : (x : Factor) → factor_slots (factors.Not x) ≡ inside_slots marks.Tilde factor_slots x
+pub slots-Not : (x : Factor) → factor_slots (factors.Not x) ≡ inside_slots marks.Tilde factor_slots x
 slots-Not x = search (rules, the_lemmas)
 
-slots-Name : (x : Name) → factor_slots (factors.Name x) ≡ name_slots x
+pub slots-Name : (x : Name) → factor_slots (factors.Name x) ≡ name_slots x
 slots-Name x = search (rules, the_lemmas)
 
-slots-Match : (m : Match) → factor_slots (factors.Match m) ≡ match_slots m
+pub slots-Match : (m : Match) → factor_slots (factors.Match m) ≡ match_slots m
 slots-Match m = search (rules, the_lemmas)
 
 folded-Group : (tss : List (List Factor)) → factor_slots (factors.Group tss) ≡ inside_slots marks.OpenParen (λ xss. expr_slots (λ x. x) xss ++ mark marks.CloseParen ∷ []) (map (map factor_slots) tss)
 folded-Group tss = search (rules, the_lemmas)
 
-slots-Group : (tss : List (List Factor)) → factor_slots (factors.Group tss) ≡ inside_slots marks.OpenParen (λ xss. terms_slots xss ++ mark marks.CloseParen ∷ []) tss
+pub slots-Group : (tss : List (List Factor)) → factor_slots (factors.Group tss) ≡ inside_slots marks.OpenParen (λ xss. terms_slots xss ++ mark marks.CloseParen ∷ []) tss
 slots-Group tss =
     folded-Group tss ∙ ap (λ ss. opening marks.OpenParen ∷ raise (ss ++ mark marks.CloseParen ∷ []))
     (same_sep marks.Bar (map factor_slots) (sep_slots marks.Ampersand factor_slots) (sep_slots marks.Ampersand (λ x. x)) (λ xs. same_sep marks.Ampersand factor_slots factor_slots (λ x. x) (λ x. refl) xs) tss)

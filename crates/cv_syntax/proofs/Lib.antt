@@ -6,3 +6,7 @@ pub mod Sentences
 pub mod Scripts
 pub mod Levels
 pub mod Theorem
+pub mod Asides
+pub mod Prints
+pub mod Weights
+pub mod Rewritten

@@ -40,25 +40,25 @@ same_sep m f spell spelled same [] = refl
 same_sep m f spell spelled same (x ∷ xs) =
     ap₂ (λ a b. a ++ b) (same x) (same_all f (λ y. mark m ∷ spell y) (λ y. mark m ∷ spelled y) (λ y. ap (λ ss. mark m ∷ ss) (same y)) xs)
 
-pub pair_slots : Pair Literal → List Slot
+unfoldable pub pair_slots : Pair Literal → List Slot
 pair_slots p = just (words.Text p.key) ∷ mark marks.Colon ∷ literal_slots p.value
 
-slots-Null : literal_slots literals.Null ≡ just (words.Reserved reserved.Null) ∷ []
+pub slots-Null : literal_slots literals.Null ≡ just (words.Reserved reserved.Null) ∷ []
 slots-Null = search (rules, the_lemmas)
 
-slots-Bool : (b : Bool) → literal_slots (literals.Bool b) ≡ just (words.Reserved (truth b)) ∷ []
+pub slots-Bool : (b : Bool) → literal_slots (literals.Bool b) ≡ just (words.Reserved (truth b)) ∷ []
 slots-Bool b = search (rules, the_lemmas)
 
-slots-Int : (n : _) → literal_slots (literals.Int n) ≡ just (words.Int n) ∷ []
+pub slots-Int : (n : _) → literal_slots (literals.Int n) ≡ just (words.Int n) ∷ []
 slots-Int n = search (rules, the_lemmas)
 
-slots-Text : (text : List ℕ) → literal_slots (literals.Text text) ≡ just (words.Text text) ∷ []
+pub slots-Text : (text : List ℕ) → literal_slots (literals.Text text) ≡ just (words.Text text) ∷ []
 slots-Text text = search (rules, the_lemmas)
 
 folded-List : (xs : List Literal) → literal_slots (literals.List xs) ≡ inside_slots marks.OpenBracket (listed_slots marks.CloseBracket (λ x. x)) (map literal_slots xs)
 folded-List xs = search (rules, the_lemmas)
 
-slots-List : (xs : List Literal) → literal_slots (literals.List xs) ≡ inside_slots marks.OpenBracket (listed_slots marks.CloseBracket literal_slots) xs
+pub slots-List : (xs : List Literal) → literal_slots (literals.List xs) ≡ inside_slots marks.OpenBracket (listed_slots marks.CloseBracket literal_slots) xs
 slots-List xs =
     folded-List xs ∙ ap (λ ss. opening marks.OpenBracket ∷ raise (ss ++ mark marks.CloseBracket ∷ [])) (same_sep marks.Comma literal_slots literal_slots (λ x. x) (λ x. refl) xs)
 
@@ -68,7 +68,7 @@ on_value p = record { key = p.key; value = literal_slots p.value }
 folded-Dict : (ps : List (Pair Literal)) → literal_slots (literals.Dict ps) ≡ inside_slots marks.OpenBrace (listed_slots marks.CloseBrace entry_slots) (map on_value ps)
 folded-Dict ps = search (rules, the_lemmas)
 
-slots-Dict : (ps : List (Pair Literal)) → literal_slots (literals.Dict ps) ≡ inside_slots marks.OpenBrace (listed_slots marks.CloseBrace pair_slots) ps
+pub slots-Dict : (ps : List (Pair Literal)) → literal_slots (literals.Dict ps) ≡ inside_slots marks.OpenBrace (listed_slots marks.CloseBrace pair_slots) ps
 unfolding pair_slots
 slots-Dict ps =
     folded-Dict ps ∙ ap (λ ss. opening marks.OpenBrace ∷ raise (ss ++ mark marks.CloseBrace ∷ [])) (same_sep marks.Comma on_value pair_slots entry_slots (λ x. refl) ps)

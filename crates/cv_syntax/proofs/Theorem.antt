@@ -42,7 +42,7 @@ found_of end ws (Err fault) e = tt
 
 -- ---- only
 
-read_again : (ws : List Placed) (script : Script) → Spells ws script → items_at most_levels ws ≡ Ok (script.items, [])
+pub read_again : (ws : List Placed) (script : Script) → Spells ws script → items_at most_levels ws ≡ Ok (script.items, [])
 read_again ws script s =
     ap (items_at most_levels) (sym (append-nil ws)) ∙ (items_reads most_levels).again script.items ws [] s.whole s.low s.fits refl
 

@@ -4,3 +4,5 @@ pub mod Whole
 pub mod Parsing
 pub mod Spelling
 pub mod Grammar
+pub mod Asides
+pub mod Printing

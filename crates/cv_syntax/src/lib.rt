@@ -4,6 +4,10 @@
 pub mod fault;
 mod nested;
 pub mod parsing;
+mod print_rules;
+mod print_statements;
+mod print_values;
+pub mod printing;
 mod roots;
 mod rows;
 mod small;
@@ -13,10 +17,13 @@ pub mod tree;
 pub use cv_readers::Name;
 pub use fault::ParseFault;
 pub use parsing::parse;
+pub use printing::print;
 pub use tree::{
     Aim, Apply, Arg, Component, Declare, Define, Factor, Item, Join, KindName, Literal, Literals,
     Match, NamedRule, Pairs, Script, Source, Statement, Target, Term, Terms, Value,
 };
 
+#[cfg(test)]
+mod print_tests;
 #[cfg(test)]
 mod tests;

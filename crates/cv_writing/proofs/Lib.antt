@@ -1,0 +1,4 @@
+mod Decimals
+mod Quotes
+mod Lexicals
+pub mod Rereads

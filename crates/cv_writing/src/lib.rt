@@ -1,0 +1,9 @@
+//! Words written so that they are read again: each with a space behind it.
+#![tactic(auto)]
+
+pub mod quoting;
+pub mod writing;
+
+pub use writing::{
+    push_fraction, push_int, push_mark, push_name, push_reserved, push_text, reads_again,
+};
