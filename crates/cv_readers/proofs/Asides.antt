@@ -1,12 +1,12 @@
 -- Readers that answer alike on the same words at other places.
-use Rattle.std.proofs.Common.{◌≡◌, ℕ, zero, suc, ◌==◌, ◌&&◌, Bool, true, false, cond, Option, Some, None, option_map, List, [], ◌∷◌, ◌++◌, map, nat_lt, length, Ok, Err, refl, ap, sym, ◌∙◌}
+use Rattle.std.proofs.Common.{◌≡◌, ℕ, zero, suc, ◌==◌, ◌&&◌, Bool, true, false, cond, Option, Some, None, option_map, List, [], ◌∷◌, map, nat_lt, length, Ok, Err, refl, ap, ◌∙◌}
 use Rattle.cv_lex.specs.declared.word.Mark.{Mark}
 use Rattle.cv_lex.specs.declared.word.Mark.TheVariants as marks
 use Rattle.cv_lex.specs.declared.word.Reserved.{Reserved}
 use Rattle.cv_lex.specs.declared.word.Word.{Word}
 use Rattle.cv_lex.specs.declared.word.Placed.{Placed}
-use Rattle.cv_readers.specs.Reading.{Read, Reader, ◌>>=◌, found_word, word_at, when, is_mark, is_reserved, mark_at, reserved_at, first_is, behind, place_of, open_at, too_deep, unexpected}
-use Rattle.cv_readers.specs.Combining.{mapped, with_front, closed, after, one_more, star, many, sep, listed}
+use Rattle.cv_readers.specs.Reading.{Read, Reader, ◌>>=◌, found_word, word_at, when, is_mark, is_reserved, mark_at, reserved_at, first_is, behind, place_of, open_at, too_deep}
+use Rattle.cv_readers.specs.Combining.{mapped, closed, after, one_more, star, many, sep, listed}
 
 -- ---- words with their places put to 0
 

@@ -1,6 +1,5 @@
 -- A script is read alike at other places.
-use Rattle.std.proofs.Common.{◌≡◌, ℕ, zero, suc, ◌+◌, ◌-◌, Bool, true, false, cond, Option, Some, None, option_map, List, [], ◌∷◌, map, length, Result, Ok, Err, refl, ap, ap₂, sym, ◌∙◌, subst, rules}
-use Rattle.cv_token.specs.declared.pairs.Pair.{Pair}
+use Rattle.std.proofs.Common.{◌≡◌, ℕ, zero, suc, ◌-◌, option_map, List, [], ◌∷◌, map, Ok, Err, refl, ap, sym, ◌∙◌, rules}
 use Rattle.cv_lex.specs.declared.word.Mark.{Mark}
 use Rattle.cv_lex.specs.declared.word.Mark.TheVariants as marks
 use Rattle.cv_lex.specs.declared.word.Reserved.TheVariants as reserved
@@ -8,9 +7,9 @@ use Rattle.cv_lex.specs.declared.word.Word.{Word}
 use Rattle.cv_lex.specs.declared.word.Word.TheVariants as words
 use Rattle.cv_lex.specs.declared.word.Placed.{Placed}
 use Rattle.cv_readers.specs.declared.name.Name.{Name}
-use Rattle.cv_readers.specs.Reading.{Read, Reader, ◌>>=◌, first_is, behind, when, is_mark, is_reserved, mark_at, name_in, name_at, bare_in, bare_at, text_in, text_at, reserved_at, open_at, place_of, too_deep}
-use Rattle.cv_readers.specs.Combining.{mapped, closed, after, many, sep, listed}
-use Rattle.cv_readers.proofs.Asides.{zeroed, all_zeroed, first_zeroed, behind_zeroed, place_zeroed, none_zeroed, aside, Blind, same, aside_bind, aside_mapped, aside_cond, deep_blind, behind_blind, word_blind, bare_blind, mark_blind, reserved_blind, open_blind, closed_blind, after_blind, many_blind, sep_blind, listed_blind}
+use Rattle.cv_readers.specs.Reading.{Read, Reader, first_is, behind, when, is_mark, is_reserved, name_in, name_at, bare_in, bare_at, text_in, text_at, reserved_at, open_at, place_of}
+use Rattle.cv_readers.specs.Combining.{after, sep, listed}
+use Rattle.cv_readers.proofs.Asides.{all_zeroed, first_zeroed, behind_zeroed, place_zeroed, aside, Blind, same, aside_bind, aside_mapped, aside_cond, deep_blind, behind_blind, word_blind, bare_blind, reserved_blind, open_blind, closed_blind, after_blind, many_blind, sep_blind, listed_blind}
 use Rattle.cv_syntax.specs.declared.tree.Literal.{Literal}
 use Rattle.cv_syntax.specs.declared.tree.Literal.TheVariants as literals
 use Rattle.cv_syntax.specs.declared.tree.KindName.TheVariants as kinds
@@ -22,9 +21,8 @@ use Rattle.cv_syntax.specs.declared.tree.Statement.TheVariants as statements
 use Rattle.cv_syntax.specs.declared.tree.Factor.{Factor, the_lemmas}
 use Rattle.cv_syntax.specs.declared.tree.Factor.TheVariants as factors
 use Rattle.cv_syntax.specs.declared.tree.Match.{Match}
-use Rattle.cv_syntax.specs.declared.tree.Item.{Item}
 use Rattle.cv_syntax.specs.declared.tree.Item.TheVariants as items
-use Rattle.cv_syntax.specs.Small.{scalar_in, scalar_at, kind_after, kind_at, target_at, aim_at, is_name, is_any_name, match_name, index_name, exactly_at, field_at, fields_at, index_at, bracket_at, group_at, match_at}
+use Rattle.cv_syntax.specs.Small.{scalar_in, kind_at, target_at, aim_at, is_name, is_any_name, match_name, index_name, exactly_at, field_at, fields_at, index_at, bracket_at, group_at, match_at}
 use Rattle.cv_syntax.specs.Nested.{opens, lifts, literal_with, pair_with, nest_with, nest_at, literal_at, factor_with, terms_with, lift_with, lift_at, factor_at, terms_at}
 use Rattle.cv_syntax.specs.Whole.{fraction_in, is_fraction, fraction_at, value_at, arg_at, declare_at, join_at, port_at, named_at, source_at, statement_at, is_inside, body_at, component_at, define_at, rule_at, apply_at, item_at, is_anything, items_at}
 use Rattle.cv_syntax.specs.Asides.{name_aside, value_aside, arg_aside, declare_aside, aim_aside, join_aside, statement_aside, factor_aside, terms_aside, component_aside, define_aside, rule_aside, apply_aside, item_aside}

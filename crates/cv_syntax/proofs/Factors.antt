@@ -1,5 +1,5 @@
 -- Expressions: their readers keep their promises.
-use Rattle.std.proofs.Common.{◌≡◌, ℕ, zero, suc, ◌+◌, ◌≤◌, ◌||◌, ◌&&◌, ◌⊎◌, inl, inr, Bool, true, false, not, cond, Option, Some, None, List, [], ◌∷◌, ◌++◌, map, Result, Ok, Err, refl, ap, ap₂, sym, ◌∙◌, subst, rules, arith}
+use Rattle.std.proofs.Common.{◌≡◌, ℕ, zero, suc, ◌||◌, ◌&&◌, ◌⊎◌, inl, inr, Bool, true, false, not, cond, Option, Some, None, List, [], ◌∷◌, ◌++◌, map, refl, ap, sym, ◌∙◌, subst, rules, arith}
 use Rattle.std.specs.List.{AllByRecursion}
 use Rattle.std.specs.Str.{bytes_eq}
 use Rattle.cv_lex.specs.declared.word.Mark.TheVariants as marks
@@ -7,12 +7,12 @@ use Rattle.cv_lex.specs.declared.word.Word.{Word}
 use Rattle.cv_lex.specs.declared.word.Word.TheVariants as words
 use Rattle.cv_lex.specs.declared.word.Placed.{Placed}
 use Rattle.cv_readers.specs.declared.name.Name.{Name}
-use Rattle.cv_readers.specs.Reading.{Read, Reader, ◌>>=◌, word_at, found_word, when, is_mark, name_in, name_at, too_deep, first_is, behind}
+use Rattle.cv_readers.specs.Reading.{Read, Reader, word_at, found_word, when, is_mark, name_in, name_at, too_deep, first_is, behind}
 use Rattle.cv_readers.specs.Combining.{mapped, closed, after, sep}
 use Rattle.cv_readers.specs.Slots.{Slot, placed, mark, opening, raise, sep_slots, SomeAll}
 use Rattle.cv_readers.proofs.Matching.{Leads}
 use Rattle.cv_readers.proofs.Promises.{never, Reads, some_word_reads}
-use Rattle.cv_readers.proofs.Changes.{Image, map_reads, recast, rewhole}
+use Rattle.cv_readers.proofs.Changes.{Image, map_reads, rewhole}
 use Rattle.cv_readers.proofs.Choices.{Either, pick, pick_reads, Begun, Opens, deep_reads}
 use Rattle.cv_readers.proofs.Manies.{either}
 use Rattle.cv_readers.proofs.Repeats.{after_mark}
@@ -24,7 +24,7 @@ use Rattle.cv_syntax.specs.declared.tree.Factor.TheOpen.{Factor-F}
 use Rattle.cv_syntax.specs.declared.tree.Factor.TheViews.{roll-Factor, out-Factor, roll-out-Factor, rolls-Not, rolls-Group, rolls-Name, rolls-Match}
 use Rattle.cv_syntax.specs.declared.tree.Factor.TheVariants as factors
 use Rattle.cv_syntax.specs.Small.{is_name, match_name, match_at}
-use Rattle.cv_syntax.specs.Nested.{lifts, factor_with, terms_with, lift_with, lift_at, factor_at, terms_at}
+use Rattle.cv_syntax.specs.Nested.{lifts, terms_with, lift_with, factor_at, terms_at}
 use Rattle.cv_syntax.specs.Spelling.{name_slots, match_slots, expr_slots, factor_slots, terms_slots, all_of, some_all, all_rows, some_all_rows, is_whole, WholeFactor, WholeTerms}
 use Rattle.cv_syntax.proofs.Literals.{same_sep}
 use Rattle.cv_syntax.proofs.Pieces.{Any, still, match_reads, name_self}

@@ -1,11 +1,10 @@
 -- A script that is read is read alike with more levels, and so is a fault that is no level too many.
-use Rattle.std.proofs.Common.{◌≡◌, ℕ, zero, suc, ◌+◌, ◌-◌, ◌≤◌, Bool, true, false, cond, List, [], ◌∷◌, Result, Ok, Err, refl, ap, sym, ◌∙◌, subst, arith}
-use Rattle.cv_token.specs.declared.pairs.Pair.{Pair}
+use Rattle.std.proofs.Common.{ℕ, zero, suc, ◌-◌, ◌≤◌, List, refl, arith}
 use Rattle.cv_lex.specs.declared.word.Mark.TheVariants as marks
 use Rattle.cv_lex.specs.declared.word.Reserved.TheVariants as reserved
 use Rattle.cv_lex.specs.declared.word.Placed.{Placed}
 use Rattle.cv_readers.specs.declared.name.Name.{Name}
-use Rattle.cv_readers.specs.Reading.{Read, Reader, ◌>>=◌, first_is, behind, is_mark, is_reserved, mark_at, name_at, bare_at, text_at, reserved_at, open_at, place_of, too_deep}
+use Rattle.cv_readers.specs.Reading.{Read, Reader, ◌>>=◌, first_is, behind, is_mark, is_reserved, name_at, bare_at, text_at, reserved_at, open_at, place_of}
 use Rattle.cv_readers.specs.Combining.{mapped, closed, after, many, sep, listed}
 use Rattle.cv_readers.proofs.Kepts.{Kept, Rises, kept_same, kept_bind, kept_mapped, kept_cond, kept_closed, rises_after, rises_many, rises_sep, rises_listed, rises_open}
 use Rattle.cv_syntax.specs.declared.tree.Literal.{Literal}
@@ -16,7 +15,7 @@ use Rattle.cv_syntax.specs.declared.tree.Statement.TheVariants as statements
 use Rattle.cv_syntax.specs.declared.tree.Factor.{Factor}
 use Rattle.cv_syntax.specs.declared.tree.Factor.TheVariants as factors
 use Rattle.cv_syntax.specs.declared.tree.Item.TheVariants as items
-use Rattle.cv_syntax.specs.Small.{scalar_at, match_name, index_name, exactly_at, is_name, is_any_name, field_at, fields_at, index_at, bracket_at, group_at, match_at, kind_at, aim_at}
+use Rattle.cv_syntax.specs.Small.{scalar_at, match_name, index_name, exactly_at, is_name, is_any_name, field_at, fields_at, index_at, bracket_at, group_at, match_at, kind_at}
 use Rattle.cv_syntax.specs.Nested.{opens, lifts, literal_with, pair_with, nest_with, nest_at, literal_at, factor_with, terms_with, lift_with, lift_at, factor_at, terms_at}
 use Rattle.cv_syntax.specs.Whole.{is_fraction, fraction_at, value_at, arg_at, declare_at, join_at, port_at, named_at, source_at, statement_at, is_inside, body_at, component_at, define_at, rule_at, apply_at, item_at, is_anything, items_at}
 

@@ -1,5 +1,5 @@
 -- Literals: their readers keep their promises.
-use Rattle.std.proofs.Common.{◌≡◌, ℕ, zero, suc, ◌+◌, ◌≤◌, ◌||◌, ◌⊎◌, inl, inr, ℤ, Bool, true, false, cond, Option, Some, None, IfSome, List, [], ◌∷◌, ◌++◌, map, Result, Ok, Err, refl, ap, ap₂, sym, ◌∙◌, subst, rules, arith}
+use Rattle.std.proofs.Common.{◌≡◌, ℕ, zero, suc, ◌≤◌, ◌||◌, ◌⊎◌, inl, inr, ℤ, Bool, true, false, Option, Some, None, IfSome, List, [], ◌∷◌, ◌++◌, map, refl, ap, ap₂, sym, ◌∙◌, subst, rules, arith}
 use Rattle.std.specs.List.{AllByRecursion}
 use Rattle.cv_token.specs.declared.pairs.Pair.{Pair}
 use Rattle.cv_lex.specs.declared.word.Mark.{Mark}
@@ -9,24 +9,24 @@ use Rattle.cv_lex.specs.declared.word.Reserved.TheVariants as reserved
 use Rattle.cv_lex.specs.declared.word.Word.{Word}
 use Rattle.cv_lex.specs.declared.word.Word.TheVariants as words
 use Rattle.cv_lex.specs.declared.word.Placed.{Placed}
-use Rattle.cv_readers.specs.Reading.{Reader, ◌>>=◌, word_at, found_word, is_mark, text_at, too_deep, first_is, behind}
+use Rattle.cv_readers.specs.Reading.{Reader, word_at, found_word, is_mark, text_at, too_deep, behind}
 use Rattle.cv_readers.specs.Combining.{mapped, after, listed}
-use Rattle.cv_readers.specs.Slots.{Slot, Fits, just, mark, opening, raise, all_slots, sep_slots, listed_slots}
+use Rattle.cv_readers.specs.Slots.{Slot, just, mark, opening, raise, all_slots, sep_slots, listed_slots}
 use Rattle.cv_readers.proofs.Matching.{Leads}
-use Rattle.cv_readers.proofs.Promises.{never, never_first, Reads, word_reads}
+use Rattle.cv_readers.proofs.Promises.{never, Reads, word_reads}
 use Rattle.cv_readers.proofs.Chains.{chain}
-use Rattle.cv_readers.proofs.Changes.{Image, map_reads, recast, rewhole}
+use Rattle.cv_readers.proofs.Changes.{Image, map_reads, rewhole}
 use Rattle.cv_readers.proofs.Choices.{Either, pick, pick_reads, Begun, Opens, deep_reads}
 use Rattle.cv_readers.proofs.Places.{Unplaced}
 use Rattle.cv_readers.proofs.Repeats.{after_mark}
-use Rattle.cv_readers.proofs.Marks.{text_reads, mark_self, mark_is}
-use Rattle.cv_readers.proofs.Listings.{after_reads, listed_reads, same_pick, opened_reads, inside_slots, Parts, parts_reads, quiet}
+use Rattle.cv_readers.proofs.Marks.{text_reads, mark_is}
+use Rattle.cv_readers.proofs.Listings.{after_reads, listed_reads, same_pick, opened_reads, inside_slots, parts_reads, quiet}
 use Rattle.cv_syntax.specs.declared.tree.Literal.{Literal, the_lemmas}
 use Rattle.cv_syntax.specs.declared.tree.Literal.TheOpen.{Literal-F}
 use Rattle.cv_syntax.specs.declared.tree.Literal.TheViews.{roll-Literal, out-Literal, roll-out-Literal, rolls-Null, rolls-Bool, rolls-Int, rolls-Text, rolls-List, rolls-Dict}
 use Rattle.cv_syntax.specs.declared.tree.Literal.TheVariants as literals
 use Rattle.cv_syntax.specs.Small.{constant_in, scalar_in, scalar_at}
-use Rattle.cv_syntax.specs.Nested.{opens, literal_with, pair_with, nest_with, nest_at, literal_at}
+use Rattle.cv_syntax.specs.Nested.{opens, pair_with, nest_with, literal_at}
 use Rattle.cv_syntax.specs.Spelling.{truth, entry_slots, literal_slots}
 
 -- ---- words, one level down

@@ -1,18 +1,18 @@
 -- What nests, one level down.
-use Rattle.std.proofs.Common.{◌≡◌, ℕ, suc, Bool, true, false, ◌==◌, List, [], ◌∷◌, length, Result, Ok, Err, refl, sym, ap, ◌∙◌, subst, arith}
+use Rattle.std.proofs.Common.{◌≡◌, ℕ, suc, true, false, ◌==◌, List, [], ◌∷◌, length, Ok, refl, sym, ap, ◌∙◌, subst, arith}
 use borrow.Author.Tests.{eqb-true}
 use Rattle.cv_syntax.specs.Whole.{is_anything}
 use Rattle.cv_lex.specs.declared.word.Mark.TheVariants as marks
 use Rattle.cv_lex.specs.declared.word.Placed.{Placed}
 use Rattle.cv_readers.specs.declared.stop.Stop.{Stop}
 use Rattle.cv_readers.specs.declared.stop.Stop.TheVariants as stops
-use Rattle.cv_readers.specs.Reading.{Read, Reader, Fails, first_is, behind, is_mark}
+use Rattle.cv_readers.specs.Reading.{Read, Fails, first_is, behind, is_mark}
 use Rattle.cv_readers.specs.Combining.{mapped, listed}
 use Rattle.cv_syntax.specs.declared.tree.Literal.{Literal}
 use Rattle.cv_syntax.specs.declared.tree.Literal.TheVariants as literals
 use Rattle.cv_syntax.specs.declared.tree.Factor.{Factor}
 use Rattle.cv_syntax.specs.declared.tree.Factor.TheVariants as factors
-use Rattle.cv_syntax.specs.Nested.{literal_at, nest_at, nest_with, literal_with, factor_at, factor_with, lift_at, lift_with}
+use Rattle.cv_syntax.specs.Nested.{literal_at, nest_at, factor_at, lift_at}
 
 fails_mapped : {X Y : Type 0} (form : X → Y) (stop : Stop) (read : Read X) → Fails stop read → Fails stop (mapped form read)
 fails_mapped form (stops.Unexpected n) read e = ap (mapped form) e

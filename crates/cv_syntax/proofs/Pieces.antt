@@ -1,26 +1,24 @@
 -- Names of kinds, targets and matches: their readers keep their promises.
-use Rattle.std.proofs.Common.{◌≡◌, ℕ, zero, suc, ◌+◌, ◌-◌, ◌≤◌, ◌⊎◌, inl, inr, Bool, true, false, cond, Option, Some, None, List, [], ◌∷◌, ◌++◌, Result, Ok, Err, refl, ap, sym, ◌∙◌, subst, arith}
+use Rattle.std.proofs.Common.{◌≡◌, ℕ, inl, inr, Bool, true, false, cond, List, [], ◌∷◌, ◌++◌, Ok, Err, refl, ap, sym, ◌∙◌, subst, arith}
 use Rattle.std.specs.List.{AllByRecursion}
-use Rattle.std.specs.Str.{bytes_eq}
 use Rattle.std.proofs.lemmas.Slice.Eq.{bytes_eq-Decides}
-use Rattle.cv_token.specs.declared.pairs.Pair.{Pair}
 use Rattle.cv_lex.specs.declared.word.Mark.TheVariants as marks
 use Rattle.cv_lex.specs.declared.word.Reserved.TheVariants as reserved
 use Rattle.cv_lex.specs.declared.word.Word.{Word}
 use Rattle.cv_lex.specs.declared.word.Word.TheVariants as words
 use Rattle.cv_lex.specs.declared.word.Placed.{Placed}
-use Rattle.cv_readers.specs.Reading.{Read, Reader, ◌>>=◌, when, is_mark, is_reserved, bare_at, text_at, place_of, first_is, behind, open_at}
+use Rattle.cv_readers.specs.Reading.{Read, Reader, ◌>>=◌, when, is_mark, is_reserved, bare_at, text_at, place_of, first_is, behind}
 use Rattle.cv_readers.specs.Combining.{mapped, closed, after, listed}
-use Rattle.cv_readers.specs.Slots.{Slot, just, mark, opening, raise, listed_slots}
+use Rattle.cv_readers.specs.Slots.{Slot, just, mark, listed_slots}
 use Rattle.cv_readers.proofs.Matching.{Leads, leads_first}
-use Rattle.cv_readers.proofs.Promises.{never, never_first, Reads, word_reads}
+use Rattle.cv_readers.proofs.Promises.{never, Reads, word_reads}
 use Rattle.cv_readers.proofs.Chains.{chain}
 use Rattle.cv_readers.proofs.Changes.{Image, map_reads, recast, rewhole}
 use Rattle.cv_readers.proofs.Choices.{Either, pick, pick_reads}
 use Rattle.cv_readers.proofs.Places.{maybe, maybe_reads, Unplaced, here, here_slots, here_reads}
 use Rattle.cv_readers.proofs.Repeats.{after_mark}
-use Rattle.cv_readers.proofs.Marks.{text_reads, bare_reads, mark_self, reserved_word, reserved_word_reads, reserved_first, when_some}
-use Rattle.cv_readers.proofs.Listings.{after_reads, closed_reads, listed_reads, same_pick, word_then, inside, inside_slots, inside_reads, plain, Parts, parts_reads, quiet}
+use Rattle.cv_readers.proofs.Marks.{text_reads, bare_reads, reserved_word, reserved_word_reads, reserved_first, when_some}
+use Rattle.cv_readers.proofs.Listings.{after_reads, closed_reads, listed_reads, same_pick, word_then, inside, inside_slots, inside_reads, parts_reads, quiet}
 use Rattle.cv_syntax.specs.declared.tree.KindName.{KindName}
 use Rattle.cv_syntax.specs.declared.tree.KindName.TheVariants as kinds
 use Rattle.cv_syntax.specs.declared.tree.Target.{Target}

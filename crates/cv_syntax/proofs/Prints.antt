@@ -1,10 +1,9 @@
 -- What is printed piece by piece.
-use Rattle.std.proofs.Common.{◌≡◌, ℕ, suc, ◌+◌, ◌<◌, ◌≤◌, Bool, List, [], ◌∷◌, ◌++◌, length, drop, get_or, Result, Ok, Err, OnOk, refl, sym, ap, ◌∙◌, subst, append_assoc, append-nil}
-use Rattle.std.proofs.lemmas.List.{drop_more, drop_all}
+use Rattle.std.proofs.Common.{◌≡◌, ℕ, ◌+◌, ◌<◌, List, [], ◌∷◌, ◌++◌, length, drop, get_or, Result, Ok, Err, OnOk, refl, sym, ap, ◌∙◌, append_assoc}
+use Rattle.std.proofs.lemmas.List.{drop_more}
 use Rattle.cv_token.specs.declared.pairs.Pair.{Pair}
 use Rattle.cv_lex.specs.declared.word.Mark.{Mark}
 use Rattle.cv_lex.specs.declared.word.Mark.TheVariants as marks
-use Rattle.cv_lex.specs.declared.word.Word.{Word}
 use Rattle.cv_readers.specs.Slots.{Slot, mark, opening, raise, place_first, all_slots, sep_slots, listed_slots}
 use Rattle.cv_writing.specs.Written.{mark_bytes, word_bytes}
 use Rattle.cv_syntax.specs.declared.tree.Literal.{Literal}

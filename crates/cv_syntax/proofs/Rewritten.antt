@@ -1,5 +1,5 @@
 -- What is printed of a script is read as the same script, places aside.
-use Rattle.std.proofs.Common.{◌≡◌, ℕ, List, [], ◌∷◌, ◌++◌, map, Result, Ok, Err, refl, sym, ap, ap₂, ◌∙◌, subst}
+use Rattle.std.proofs.Common.{◌≡◌, ℕ, List, [], ◌∷◌, map, Ok, Err, refl, sym, ap, ap₂, ◌∙◌, subst}
 use Rattle.cv_lex.specs.declared.lexeme.Lexeme.{Lexeme}
 use Rattle.cv_lex.specs.declared.word.Word.{Word}
 use Rattle.cv_lex.specs.declared.word.Placed.{Placed}
@@ -15,7 +15,7 @@ use Rattle.cv_syntax.specs.Whole.{most_levels, items_at}
 use Rattle.cv_syntax.specs.Spelling.{script_slots}
 use Rattle.cv_syntax.specs.Parsing.{words_of, answer_of}
 use Rattle.cv_syntax.specs.Grammar.{Spells}
-use Rattle.cv_syntax.specs.Asides.{item_aside, script_aside, IsTextOf, CanBeWritten, ReadsBack}
+use Rattle.cv_syntax.specs.Asides.{item_aside, CanBeWritten, ReadsBack}
 use Rattle.cv_syntax.specs.Printing.{words_expected, printed}
 use Rattle.cv_syntax.proofs.Asides.{items_blind}
 use Rattle.cv_syntax.proofs.Theorem.{found_of, read_again}

@@ -1,5 +1,5 @@
 -- What stands at the root, and scripts: their readers keep their promises.
-use Rattle.std.proofs.Common.{◌≡◌, ℕ, zero, suc, ◌+◌, ◌≤◌, ◌⊎◌, inl, inr, Bool, true, false, cond, List, [], ◌∷◌, ◌++◌, Result, Ok, Err, refl, ap, sym, ◌∙◌, subst, arith, append_assoc}
+use Rattle.std.proofs.Common.{◌≡◌, ℕ, inl, inr, Bool, true, false, List, [], ◌∷◌, ◌++◌, Ok, Err, refl, ap, ◌∙◌, subst, append_assoc}
 use Rattle.std.specs.List.{AllByRecursion}
 use Rattle.cv_lex.specs.declared.word.Mark.TheVariants as marks
 use Rattle.cv_lex.specs.declared.word.Reserved.{Reserved}
@@ -8,19 +8,18 @@ use Rattle.cv_lex.specs.declared.word.Word.{Word}
 use Rattle.cv_lex.specs.declared.word.Word.TheVariants as words
 use Rattle.cv_lex.specs.declared.word.Placed.{Placed}
 use Rattle.cv_readers.specs.declared.name.Name.{Name}
-use Rattle.cv_readers.specs.Reading.{Read, Reader, ◌>>=◌, is_mark, is_reserved, name_at, reserved_at, first_is}
+use Rattle.cv_readers.specs.Reading.{Read, Reader, ◌>>=◌, is_mark, is_reserved, name_at, reserved_at}
 use Rattle.cv_readers.specs.Combining.{mapped, after, many, sep, listed}
 use Rattle.cv_readers.specs.Slots.{Slot, just, placed, mark, all_slots, sep_slots, listed_slots, SomeAll}
-use Rattle.cv_readers.proofs.Matching.{Leads, leads_first}
-use Rattle.cv_readers.proofs.Promises.{never, never_first, Reads}
+use Rattle.cv_readers.proofs.Matching.{Leads}
+use Rattle.cv_readers.proofs.Promises.{never, Reads}
 use Rattle.cv_readers.proofs.Chains.{chain}
 use Rattle.cv_readers.proofs.Changes.{Image, map_reads, recast, rewhole, earlier}
 use Rattle.cv_readers.proofs.Choices.{Either, pick, pick_reads}
 use Rattle.cv_readers.proofs.Manies.{either, idle, Row, many_reads}
-use Rattle.cv_readers.proofs.Marks.{name_reads, reserved_reads, reserved_self, reserved_word, reserved_word_reads, reserved_skip}
-use Rattle.cv_readers.proofs.Listings.{after_reads, listed_reads, sep_reads, word_then, plain, Parts, parts_reads, quiet}
+use Rattle.cv_readers.proofs.Marks.{name_reads, reserved_reads, reserved_word, reserved_word_reads, reserved_skip}
+use Rattle.cv_readers.proofs.Listings.{after_reads, listed_reads, sep_reads, word_then, parts_reads, quiet}
 use Rattle.cv_syntax.specs.declared.tree.Literal.{Literal}
-use Rattle.cv_syntax.specs.declared.tree.Value.{Value}
 use Rattle.cv_syntax.specs.declared.tree.Value.TheVariants as values
 use Rattle.cv_syntax.specs.declared.tree.Factor.{Factor}
 use Rattle.cv_syntax.specs.declared.tree.Statement.{Statement}

@@ -1,5 +1,5 @@
 -- Declarations and joins: their readers keep their promises.
-use Rattle.std.proofs.Common.{◌≡◌, ℕ, ℤ, zero, suc, ◌+◌, ◌≤◌, ◌⊎◌, inl, inr, Bool, true, false, not, cond, Option, Some, None, List, [], ◌∷◌, ◌++◌, Result, Ok, Err, refl, ap, ap₂, sym, ◌∙◌, subst, arith, append_assoc}
+use Rattle.std.proofs.Common.{◌≡◌, ℕ, inl, inr, Bool, true, false, not, cond, Some, List, [], ◌∷◌, ◌++◌, Ok, Err, refl, ap, ap₂, sym, ◌∙◌, subst, arith}
 use Rattle.std.specs.List.{AllByRecursion}
 use Rattle.cv_lex.specs.declared.word.Mark.TheVariants as marks
 use Rattle.cv_lex.specs.declared.word.Reserved.TheVariants as reserved
@@ -8,20 +8,19 @@ use Rattle.cv_lex.specs.declared.word.Word.TheVariants as words
 use Rattle.cv_lex.specs.declared.word.Placed.{Placed}
 use Rattle.cv_readers.specs.declared.name.Name.{Name}
 use Rattle.cv_readers.specs.Reading.{Read, Reader, ◌>>=◌, is_mark, is_reserved, name_at, bare_at, place_of, first_is, behind}
-use Rattle.cv_readers.specs.Combining.{mapped, closed, after, many, sep, listed}
-use Rattle.cv_readers.specs.Slots.{Slot, just, placed, mark, place_first, all_slots, sep_slots, listed_slots, SomeAll}
+use Rattle.cv_readers.specs.Combining.{mapped, after, many, sep, listed}
+use Rattle.cv_readers.specs.Slots.{Slot, just, mark, place_first, all_slots, sep_slots, listed_slots, SomeAll}
 use Rattle.cv_readers.proofs.Matching.{Leads, leads_first}
 use Rattle.cv_readers.proofs.Promises.{never, never_first, Reads, word_reads}
-use Rattle.cv_readers.proofs.Chains.{chain, then_reads, both_slots, BothWhole}
+use Rattle.cv_readers.proofs.Chains.{chain, then_reads}
 use Rattle.cv_readers.proofs.Changes.{Image, map_reads, recast, rewhole, earlier}
 use Rattle.cv_readers.proofs.Choices.{Either, pick, pick_reads}
 use Rattle.cv_readers.proofs.Manies.{either, idle, Row, many_reads, leads_append}
 use Rattle.cv_readers.proofs.Places.{maybe, maybe_reads, Unplaced, here, here_slots, here_reads}
 use Rattle.cv_readers.proofs.Repeats.{after_mark}
-use Rattle.cv_readers.proofs.Marks.{name_reads, bare_reads, mark_self, mark_is, reserved_word, reserved_word_reads, reserved_first}
-use Rattle.cv_readers.proofs.Listings.{after_reads, closed_reads, listed_reads, sep_reads, same_pick, word_then, plain, Parts, parts_reads, quiet}
+use Rattle.cv_readers.proofs.Marks.{name_reads, bare_reads, mark_is, reserved_word, reserved_word_reads, reserved_first}
+use Rattle.cv_readers.proofs.Listings.{after_reads, closed_reads, listed_reads, sep_reads, same_pick, word_then, plain, parts_reads, quiet}
 use Rattle.cv_syntax.specs.declared.tree.Literal.{Literal}
-use Rattle.cv_syntax.specs.declared.tree.Literal.TheVariants as literals
 use Rattle.cv_syntax.specs.declared.tree.Value.{Value}
 use Rattle.cv_syntax.specs.declared.tree.Value.TheVariants as values
 use Rattle.cv_syntax.specs.declared.tree.Arg.{Arg}
@@ -38,7 +37,7 @@ use Rattle.cv_syntax.specs.declared.tree.Statement.TheVariants as statements
 use Rattle.cv_syntax.specs.Small.{kind_at, aim_at, is_any_name}
 use Rattle.cv_syntax.specs.Nested.{literal_at}
 use Rattle.cv_syntax.specs.Whole.{fraction_in, fraction_at, is_fraction, value_at, arg_at, declare_at, join_at, port_at, named_at, source_at, statement_at, body_at, is_inside}
-use Rattle.cv_syntax.specs.Spelling.{name_slots, bare_slots, literal_slots, value_slots, arg_slots, kind_slots, declare_slots, source_slots, aim_slots, join_slots, statement_slots, AnyAim, WholeStatement}
+use Rattle.cv_syntax.specs.Spelling.{name_slots, bare_slots, literal_slots, value_slots, arg_slots, kind_slots, source_slots, aim_slots, join_slots, statement_slots, AnyAim, WholeStatement}
 use Rattle.cv_syntax.proofs.Literals.{literal_reads, literal_leads, literal_unplaced}
 use Rattle.cv_syntax.proofs.Pieces.{Any, still, kind_reads, kind_cont, aim_reads}
 

@@ -1,14 +1,12 @@
 -- What is parsed is what the grammar says.
-use Rattle.std.proofs.Common.{◌≡◌, ℕ, zero, suc, ◌+◌, ◌-◌, ◌≤◌, Bool, true, false, cond, Option, Some, None, IfSome, IfOk, IfErr, List, [], ◌∷◌, ◌++◌, length, slice_get, Result, Ok, Err, refl, ap, sym, ◌∙◌, subst, append_assoc, append-nil, arith}
+use Rattle.std.proofs.Common.{◌≡◌, ℕ, suc, ◌+◌, ◌-◌, ◌≤◌, Bool, true, false, cond, Option, Some, None, IfSome, IfOk, IfErr, List, [], ◌∷◌, ◌++◌, length, slice_get, Result, Ok, Err, refl, ap, sym, ◌∙◌, subst, append_assoc, append-nil, arith}
 use Rattle.std.proofs.lemmas.List.{length-append}
 use Rattle.std.specs.List.{AllByRecursion}
-use Rattle.cv_lex.specs.declared.word.Word.{Word}
-use Rattle.cv_lex.specs.declared.word.Word.TheVariants as words
 use Rattle.cv_lex.specs.declared.word.Placed.{Placed}
 use Rattle.cv_readers.specs.Reading.{Miss, Read, first_is}
-use Rattle.cv_readers.specs.Slots.{Slot, Fits, Matches, IsWithin, all_slots}
+use Rattle.cv_readers.specs.Slots.{Slot, Matches, IsWithin, all_slots}
 use Rattle.cv_readers.proofs.Matching.{matches_append}
-use Rattle.cv_readers.proofs.Promises.{never, never_first, missed, read_same, not_both, Taken, Reaches, Deeper, Stuck, Reads}
+use Rattle.cv_readers.proofs.Promises.{never, never_first, missed, read_same, not_both, Reaches}
 use Rattle.cv_readers.proofs.Manies.{either}
 use Rattle.cv_readers.proofs.Kepts.{Kept}
 use Rattle.cv_syntax.specs.declared.tree.Item.{Item}
@@ -16,8 +14,8 @@ use Rattle.cv_syntax.specs.declared.tree.Script.{Script}
 use Rattle.cv_syntax.specs.declared.fault.ParseFault.{ParseFault}
 use Rattle.cv_syntax.specs.declared.fault.ParseFault.TheVariants as faults
 use Rattle.cv_syntax.specs.Whole.{most_levels, items_at, is_anything}
-use Rattle.cv_syntax.specs.Spelling.{item_slots, script_slots, WholeItem, WholeScript}
-use Rattle.cv_syntax.specs.Parsing.{place_or, place_left, fault_of, answer_of, parsed, FailsAt, Answers}
+use Rattle.cv_syntax.specs.Spelling.{item_slots, script_slots, WholeItem}
+use Rattle.cv_syntax.specs.Parsing.{place_or, place_left, fault_of, answer_of, parsed, Answers}
 use Rattle.cv_syntax.specs.Grammar.{Spells, Begins, BeginsOne, BeginsAny, first_place, IsUnexpected, IsTooDeep, IsFault}
 use Rattle.cv_syntax.proofs.Scripts.{items_reads}
 use Rattle.cv_syntax.proofs.Levels.{rises_items}

@@ -1,5 +1,5 @@
 -- How much there is of an expression, so that its printing ends.
-use Rattle.std.proofs.Common.{◌≡◌, ℕ, zero, suc, ◌+◌, ◌<◌, ◌≤◌, List, [], ◌∷◌, length, map, get_or, refl, sym, ap, ap₂, ◌∙◌, subst, rules, arith}
+use Rattle.std.proofs.Common.{◌≡◌, ℕ, zero, suc, ◌+◌, ◌<◌, ◌≤◌, List, [], ◌∷◌, length, map, get_or, refl, sym, ap, ◌∙◌, subst, rules, arith}
 use Rattle.cv_syntax.specs.declared.tree.Factor.{Factor, fold-Factor, the_lemmas}
 use Rattle.cv_syntax.specs.declared.tree.Factor.TheOpen.{Factor-F}
 use Rattle.cv_syntax.specs.declared.tree.Factor.TheVariants as factors

@@ -3,14 +3,13 @@ use Rattle.std.specs.Prelude.{ℕ, zero, suc, Bool, ◌||◌, if◌then◌else�
 use Rattle.cv_token.specs.declared.pairs.Pair.{Pair}
 use Rattle.cv_lex.specs.declared.word.Mark.TheVariants as marks
 use Rattle.cv_lex.specs.declared.word.Word.{Word}
-use Rattle.cv_lex.specs.declared.word.Placed.{Placed}
-use Rattle.cv_readers.specs.Reading.{Read, Reader, ◌>>=◌, unexpected, too_deep, is_mark, mark_at, name_at, text_at, first_is, behind}
+use Rattle.cv_readers.specs.Reading.{Reader, ◌>>=◌, too_deep, is_mark, name_at, text_at, first_is, behind}
 use Rattle.cv_readers.specs.Combining.{mapped, closed, after, sep, listed}
 use Rattle.cv_syntax.specs.declared.tree.Literal.{Literal}
 use Rattle.cv_syntax.specs.declared.tree.Literal.TheVariants as literals
 use Rattle.cv_syntax.specs.declared.tree.Factor.{Factor}
 use Rattle.cv_syntax.specs.declared.tree.Factor.TheVariants as factors
-use Rattle.cv_syntax.specs.Small.{scalar_at, match_at, is_name, match_name, is_any_name}
+use Rattle.cv_syntax.specs.Small.{scalar_at, match_at, is_name, match_name}
 
 -- ---- literals
 

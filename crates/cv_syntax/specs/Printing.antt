@@ -1,5 +1,5 @@
 -- The text that is written for what a tree expects.
-use Rattle.std.specs.Prelude.{◌≡◌, ℕ, List, [], ◌∷◌, ◌++◌, map}
+use Rattle.std.specs.Prelude.{◌≡◌, ℕ, List, ◌∷◌, ◌++◌, map}
 use Rattle.cv_token.specs.declared.pairs.Pair.{Pair}
 use Rattle.cv_lex.specs.declared.word.Mark.{Mark}
 use Rattle.cv_lex.specs.declared.word.Mark.TheVariants as marks

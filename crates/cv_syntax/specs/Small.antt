@@ -1,5 +1,5 @@
 -- The readers of values that do not nest, one level given.
-use Rattle.std.specs.Prelude.{ℕ, ℤ, Bool, true, false, if◌then◌else◌, ◌-◌, List, Option, Some, None, Ok, codes}
+use Rattle.std.specs.Prelude.{ℕ, Bool, true, false, if◌then◌else◌, ◌-◌, List, Option, Some, None, Ok, codes}
 use Rattle.std.specs.Str.{bytes_eq}
 use Rattle.cv_token.specs.declared.pairs.Pair.{Pair}
 use Rattle.cv_lex.specs.declared.word.Mark.TheVariants as marks
@@ -8,8 +8,8 @@ use Rattle.cv_lex.specs.declared.word.Reserved.TheVariants as reserved
 use Rattle.cv_lex.specs.declared.word.Word.{Word}
 use Rattle.cv_lex.specs.declared.word.Word.TheVariants as words
 use Rattle.cv_lex.specs.declared.word.Placed.{Placed}
-use Rattle.cv_readers.specs.Reading.{Read, Reader, ◌>>=◌, unexpected, word_at, when, is_mark, is_reserved, mark_at, reserved_at, name_at, bare_at, text_at, open_at, place_of, first_is, behind}
-use Rattle.cv_readers.specs.Combining.{mapped, closed, after, sep, listed}
+use Rattle.cv_readers.specs.Reading.{Read, Reader, ◌>>=◌, word_at, when, is_mark, is_reserved, bare_at, text_at, open_at, place_of, first_is, behind}
+use Rattle.cv_readers.specs.Combining.{mapped, closed, after, listed}
 use Rattle.cv_syntax.specs.declared.tree.Literal.{Literal}
 use Rattle.cv_syntax.specs.declared.tree.Literal.TheVariants as literals
 use Rattle.cv_syntax.specs.declared.tree.KindName.{KindName}

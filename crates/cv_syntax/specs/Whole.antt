@@ -4,9 +4,8 @@ use Rattle.cv_lex.specs.declared.word.Mark.TheVariants as marks
 use Rattle.cv_lex.specs.declared.word.Reserved.TheVariants as reserved
 use Rattle.cv_lex.specs.declared.word.Word.{Word}
 use Rattle.cv_lex.specs.declared.word.Word.TheVariants as words
-use Rattle.cv_lex.specs.declared.word.Placed.{Placed}
 use Rattle.cv_readers.specs.declared.name.Name.{Name}
-use Rattle.cv_readers.specs.Reading.{Read, Reader, ◌>>=◌, word_at, is_mark, is_reserved, mark_at, reserved_at, name_at, bare_at, place_of, first_is, behind}
+use Rattle.cv_readers.specs.Reading.{Reader, ◌>>=◌, word_at, is_mark, is_reserved, reserved_at, name_at, bare_at, place_of, first_is, behind}
 use Rattle.cv_readers.specs.Combining.{mapped, closed, after, many, sep, listed}
 use Rattle.cv_syntax.specs.declared.tree.Value.{Value}
 use Rattle.cv_syntax.specs.declared.tree.Value.TheVariants as values
@@ -14,7 +13,6 @@ use Rattle.cv_syntax.specs.declared.tree.Arg.{Arg}
 use Rattle.cv_syntax.specs.declared.tree.Declare.{Declare}
 use Rattle.cv_syntax.specs.declared.tree.Source.{Source}
 use Rattle.cv_syntax.specs.declared.tree.Source.TheVariants as sources
-use Rattle.cv_syntax.specs.declared.tree.Aim.{Aim}
 use Rattle.cv_syntax.specs.declared.tree.Join.{Join}
 use Rattle.cv_syntax.specs.declared.tree.Statement.{Statement}
 use Rattle.cv_syntax.specs.declared.tree.Statement.TheVariants as statements

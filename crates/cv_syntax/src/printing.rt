@@ -3,8 +3,8 @@
 ghost use Rattle.std.specs.Prelude.{◌≡◌, string_bytes, OnOk, IfOk};
 ghost use Rattle.cv_lex.specs.declared.word.Mark.TheVariants.{Comma};
 ghost use Rattle.cv_readers.specs.Slots.{all_slots, sep_slots, listed_slots};
-ghost use Rattle.cv_syntax.specs.Spelling.{name_slots, statement_slots, component_slots, define_slots, rule_slots, apply_slots, item_slots};
-ghost use Rattle.cv_syntax.specs.Printing.{Adds, head_slots};
+ghost use Rattle.cv_syntax.specs.Spelling.{name_slots, statement_slots, component_slots, define_slots, rule_slots, apply_slots, item_slots, script_slots};
+ghost use Rattle.cv_syntax.specs.Printing.{Adds, head_slots, printed};
 ghost use Rattle.cv_syntax.specs.Asides.{CanBeWritten, ReadsBack};
 
 use crate::print_rules::print_terms;
@@ -130,6 +130,8 @@ pub fn print(alloc: Global, script: &Script) -> Result<Text, OutOfMemory>
     requires { CanBeWritten script.now }
     // The text is read as the same script, places aside.
     ensures read_back { IfOk result (λ text. ReadsBack script.now text) }
+    // Which text it is.
+    ensures exact { IfOk result (λ text. text ≡ printed (script_slots script.now)) }
 {
     let mut out = String::new(alloc);
     print_items(&mut out, &script.items)?;

@@ -1,7 +1,7 @@
 //! Words written so that they are read again: each with a space behind it.
 #![tactic(auto)]
 
-pub mod quoting;
+mod pieces;
 pub mod writing;
 
 pub use writing::{

@@ -6,7 +6,7 @@ ghost use Rattle.cv_lex.specs.declared.word.Word.TheVariants as words;
 ghost use Rattle.cv_lex.specs.Spelling.{Spells};
 ghost use Rattle.cv_writing.specs.Written.{mark_bytes, reserved_bytes, written, words_in, ReadsAs};
 
-use crate::quoting::push_quoted;
+use crate::pieces::{push_quoted, push_space, push_word};
 use cv_lex::{Mark, Reserved};
 use cv_token::OutOfMemory;
 use itoa::Buffer;
@@ -15,8 +15,7 @@ use itoa::Buffer;
 pub fn push_name(out: &mut String, name: &str) -> Result<(), OutOfMemory>
     ensures { OnOk result (string_bytes out.new ≡ string_bytes out.old ++ written (words.Name name.now ∷ [])) }
 {
-    out.push_str(name)?;
-    out.push(' ')
+    push_word(out, name)
 }
 
 /// The letters of a reserved name.
@@ -39,8 +38,7 @@ fn reserved_text(name: Reserved) -> &'static str
 pub fn push_reserved(out: &mut String, name: Reserved) -> Result<(), OutOfMemory>
     ensures { OnOk result (string_bytes out.new ≡ string_bytes out.old ++ written (words.Reserved name ∷ [])) }
 {
-    out.push_str(reserved_text(name))?;
-    out.push(' ')
+    push_word(out, reserved_text(name))
 }
 
 /// An integer, in decimal.
@@ -48,16 +46,14 @@ pub fn push_int(out: &mut String, number: i64) -> Result<(), OutOfMemory>
     ensures { OnOk result (string_bytes out.new ≡ string_bytes out.old ++ written (words.Int number ∷ [])) }
 {
     let mut buffer = Buffer::new();
-    out.push_str(buffer.format(number))?;
-    out.push(' ')
+    push_word(out, buffer.format(number))
 }
 
 /// A number with a fraction, by its letters.
 pub fn push_fraction(out: &mut String, digits: &str) -> Result<(), OutOfMemory>
     ensures { OnOk result (string_bytes out.new ≡ string_bytes out.old ++ written (words.Fraction digits.now ∷ [])) }
 {
-    out.push_str(digits)?;
-    out.push(' ')
+    push_word(out, digits)
 }
 
 /// A text in quotes.
@@ -65,7 +61,7 @@ pub fn push_text(out: &mut String, text: &str) -> Result<(), OutOfMemory>
     ensures { OnOk result (string_bytes out.new ≡ string_bytes out.old ++ written (words.Text text.now ∷ [])) }
 {
     push_quoted(out, text)?;
-    out.push(' ')
+    push_space(out)
 }
 
 /// The letters of a mark.
@@ -95,8 +91,7 @@ fn mark_text(mark: Mark) -> &'static str
 pub fn push_mark(out: &mut String, mark: Mark) -> Result<(), OutOfMemory>
     ensures { OnOk result (string_bytes out.new ≡ string_bytes out.old ++ written (words.Mark mark ∷ [])) }
 {
-    out.push_str(mark_text(mark))?;
-    out.push(' ')
+    push_word(out, mark_text(mark))
 }
 
 /// The words of a source, written with a space behind each, are read as the same words.

@@ -4,7 +4,7 @@ use Rattle.cv_lex.specs.declared.word.Mark.TheVariants.{Ampersand, Bar}
 use Rattle.cv_readers.proofs.Repeats.{sep_next, sep_fails, loop_over}
 use Rattle.cv_readers.specs.Combining.{sep}
 use Rattle.cv_syntax.specs.Nested.{factor_at, terms_at}
-use Rattle.cv_syntax.proofs.Nests.{lift_not_ok, lift_not_fails}
+use Rattle.cv_syntax.proofs.Nests.{lift_not_fails}
 use Rattle.cv_syntax.proofs.nested.+factors.Goals as goal
 
 pub read_term-returns-in_err-next-clause-value : goal.read_term-returns-in_err-next-clause-value

@@ -2,7 +2,6 @@ use Rattle.std.proofs.Common.{arith}
 use Rattle.std.proofs.lemmas.Result.{err_from_is_err_and}
 use Rattle.cv_lex.specs.declared.word.Mark.TheVariants.{Comma}
 use Rattle.cv_readers.proofs.Repeats.{sep_next, sep_fails, loop_over}
-use Rattle.cv_readers.specs.Combining.{sep}
 use Rattle.cv_syntax.specs.Nested.{literal_at, pair_with}
 use Rattle.cv_syntax.proofs.Nests.{nest_list_ok, nest_list_fails}
 use Rattle.cv_syntax.proofs.nested.+literals.Goals as goal

@@ -1,5 +1,5 @@
 use Rattle.std.proofs.Common.{ap, sym, ◌∙◌, arith}
-use Rattle.cv_lex.specs.declared.word.Mark.TheVariants.{Ampersand, Bar, OpenParen, CloseParen, Tilde}
+use Rattle.cv_lex.specs.declared.word.Mark.TheVariants.{Ampersand, Bar, OpenParen, CloseParen}
 use Rattle.cv_readers.specs.Slots.{mark, sep_slots}
 use Rattle.cv_syntax.specs.Spelling.{factor_slots, terms_slots}
 use Rattle.cv_syntax.proofs.Prints.{on_ok, adds_closed, adds_not, row_begun, row_next, group_parts}

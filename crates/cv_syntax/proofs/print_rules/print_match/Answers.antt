@@ -1,7 +1,7 @@
-use Rattle.std.proofs.Common.{[], ◌∷◌, ◌++◌, sym, ap, ◌∙◌}
+use Rattle.std.proofs.Common.{[], ◌∷◌}
 use Rattle.cv_lex.specs.declared.word.Mark.TheVariants.{OpenParen}
 use Rattle.cv_lex.specs.declared.word.Word.TheVariants as words
-use Rattle.cv_readers.specs.Slots.{just, mark, opening}
+use Rattle.cv_readers.specs.Slots.{just, opening}
 use Rattle.cv_syntax.specs.Small.{match_name}
 use Rattle.cv_syntax.specs.Spelling.{in_level, group_slots}
 use Rattle.cv_syntax.proofs.Prints.{on_ok, adds_both, adds_level}

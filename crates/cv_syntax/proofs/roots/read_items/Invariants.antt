@@ -1,4 +1,4 @@
-use Rattle.std.proofs.Common.{◌≡◌, ◌≤◌, length}
+use Rattle.std.proofs.Common.{◌≡◌, length}
 use Rattle.cv_readers.specs.Combining.{with_front, many}
 use Rattle.cv_syntax.specs.Whole.{most_levels, is_anything, item_at}
 use Rattle.cv_syntax.proofs.roots.read_items.Given as goal

@@ -1,4 +1,4 @@
-use Rattle.std.proofs.Common.{◌≡◌, ◌≤◌, ◌<◌, length}
+use Rattle.std.proofs.Common.{◌≡◌, ◌<◌, length}
 use Rattle.cv_lex.specs.declared.word.Mark.TheVariants.{Comma}
 use Rattle.cv_readers.specs.Reading.{is_mark}
 use Rattle.cv_readers.specs.Combining.{with_front, after, many, sep}

@@ -1,6 +1,6 @@
 use Rattle.std.proofs.Common.{◌≡◌, ◌++◌, string_bytes}
 use Rattle.cv_writing.specs.Written.{escaped}
-use Rattle.cv_writing.proofs.quoting.push_chars.Given as goal
+use Rattle.cv_writing.proofs.pieces.push_chars.Given as goal
 
 -- what is left, behind what was written
 abbrev pub invariant-loop-ch : goal.invariant-loop-ch
