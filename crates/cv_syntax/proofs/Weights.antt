@@ -24,9 +24,6 @@ term_weight factors = total (map weight factors)
 abbrev pub terms_weight : List (List Factor) → ℕ
 terms_weight terms = total (map term_weight terms)
 
-pub weight-Not : (x : Factor) → weight (factors.Not x) ≡ suc (weight x)
-weight-Not x = search (rules, the_lemmas)
-
 folded-Group : (tss : List (List Factor)) → weight (factors.Group tss) ≡ suc (total (map total (map (map weight) tss)))
 folded-Group tss = search (rules, the_lemmas)
 
@@ -36,9 +33,6 @@ rows (ts ∷ tss) = ap (λ n. term_weight ts + n) (rows tss)
 
 pub weight-Group : (tss : List (List Factor)) → weight (factors.Group tss) ≡ suc (terms_weight tss)
 weight-Group tss = folded-Group tss ∙ ap suc (rows tss)
-
-pub first_within : {X : Type 0} (f : X → ℕ) (all : List X) (x : X) (rest : List X) → all ≡ x ∷ rest → f x ≤ total (map f all)
-first_within f all x rest e = subst (λ xs. f x ≤ total (map f xs)) (sym e) (omega arith)
 
 item_within : {X : Type 0} (f : X → ℕ) (xs : List X) (i : ℕ) (x : X) → i < length xs → x ≡ get_or xs i x → f x ≤ total (map f xs)
 item_within f [] i x l e = absurd (omega arith)

@@ -1,5 +1,5 @@
 -- The bytes that are written for a word are a lexeme that is this word.
-use Rattle.std.proofs.Common.{◌≡◌, ℕ, ℤ, pos, ◌-◌, true, Option, Some, None, is_some, unwrap_or, Ok, List, ◌∷◌, length, take, drop, refl, ap, ◌∙◌, subst, arith}
+use Rattle.std.proofs.Common.{◌≡◌, ℕ, ℤ, pos, ◌-◌, true, Option, Some, None, is_some, unwrap_or, Ok, List, ◌∷◌, length, take, drop, refl, ap, ◌∙◌, arith}
 use Rattle.cv_lex.specs.declared.lexeme.Sort.{Sort}
 use Rattle.cv_lex.specs.declared.lexeme.Sort.TheVariants as sorts
 use Rattle.cv_lex.specs.declared.word.Mark.{Mark}
@@ -99,6 +99,3 @@ word_writable sorts.Int front rest h f = int_read front (int_of front) refl f
 word_writable sorts.Fraction front rest h f = λ more. record { stands = h; fits = tt; says = refl }
 word_writable sorts.Text front rest h f = text_writable _
 word_writable sorts.Mark front rest h f = mark_writable _
-
-pub is_writable : (sort : Sort) (front rest : List ℕ) (word : Word) → Is sort front rest word → IsWritable word
-is_writable sort front rest word i = subst IsWritable i.says (word_writable sort front rest i.stands i.fits)

@@ -1,5 +1,5 @@
 -- Texts in quotes are read as the same texts.
-use Rattle.std.proofs.Common.{◌≡◌, ◌≢◌, ℕ, zero, ◌+◌, ◌-◌, ◌≤◌, ◌||◌, ◌⊎◌, ◌/◌, ◌%◌, eqb, ltb, cond, true, false, Ok, List, [], ◌∷◌, ◌++◌, length, take, drop, refl, sym, ap, ◌∙◌, subst, inl, inr, append_assoc, arith}
+use Rattle.std.proofs.Common.{◌≡◌, ◌≢◌, ℕ, zero, ◌+◌, ◌-◌, ◌≤◌, ◌||◌, ◌⊎◌, ◌/◌, ◌%◌, eqb, ltb, cond, false, Ok, List, [], ◌∷◌, ◌++◌, length, take, drop, refl, sym, ap, ◌∙◌, subst, inl, inr, append_assoc, arith}
 use lib.Utf8.{encode}
 use Rattle.std.proofs.lemmas.Bool.{cond_both, ne_eqb}
 use Rattle.std.proofs.lemmas.Bool.Decides.{nat_tests}
@@ -10,9 +10,6 @@ use Rattle.cv_lex.proofs.Right.{take-front}
 use Rattle.cv_writing.specs.Written.{escape_byte, escaped, quoted}
 
 -- ---- the escape of a byte
-
-abbrev IsHidden : ℕ → Type 0
-IsHidden b = eqb b 34 || eqb b 92 ≡ true
 
 -- a byte is hidden or plain
 by_byte : (P : List ℕ → Type 0) (b : ℕ) → ((b ≡ 34) ⊎ (b ≡ 92) → P (92 ∷ b ∷ [])) → (b ≢ 34 → b ≢ 92 → P (b ∷ [])) → P (escape_byte b)
