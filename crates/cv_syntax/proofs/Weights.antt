@@ -31,8 +31,8 @@ rows : (tss : List (List Factor)) → total (map total (map (map weight) tss)) �
 rows [] = refl
 rows (ts ∷ tss) = ap (λ n. term_weight ts + n) (rows tss)
 
-pub weight-Group : (tss : List (List Factor)) → weight (factors.Group tss) ≡ suc (terms_weight tss)
-weight-Group tss = folded-Group tss ∙ ap suc (rows tss)
+pub group_weight : (tss : List (List Factor)) → weight (factors.Group tss) ≡ suc (terms_weight tss)
+group_weight tss = folded-Group tss ∙ ap suc (rows tss)
 
 item_within : {X : Type 0} (f : X → ℕ) (xs : List X) (i : ℕ) (x : X) → i < length xs → x ≡ get_or xs i x → f x ≤ total (map f xs)
 item_within f [] i x l e = absurd (omega arith)

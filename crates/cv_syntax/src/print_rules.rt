@@ -88,6 +88,7 @@ fn print_match(out: &mut String, found: &Match) -> Result<(), OutOfMemory>
 
 /// A part of an expression.
 #[cycle(print_factors)]
+#[tactic(auto, using(crate::proofs::Weights::group_weight))]
 fn print_factor(out: &mut String, factor: &Factor) -> Result<(), OutOfMemory>
     ensures { OnOk result (Adds (string_bytes out.old) (string_bytes out.new) (factor_slots factor.now)) }
 {

@@ -1,9 +1,9 @@
-use Rattle.std.proofs.Common.{ap, sym, ◌∙◌, arith}
+use Rattle.std.proofs.Common.{sym, ◌∙◌, arith}
 use Rattle.cv_lex.specs.declared.word.Mark.TheVariants.{Ampersand, Bar, OpenParen, CloseParen}
 use Rattle.cv_readers.specs.Slots.{mark, sep_slots}
 use Rattle.cv_syntax.specs.Spelling.{factor_slots, terms_slots}
 use Rattle.cv_syntax.proofs.Prints.{on_ok, adds_closed, adds_not, row_begun, row_next, group_parts}
-use Rattle.cv_syntax.proofs.Weights.{weight, term_weight, weight-Group, rest_within}
+use Rattle.cv_syntax.proofs.Weights.{weight, term_weight, rest_within}
 use Rattle.cv_syntax.proofs.print_rules.+print_factors.Goals as goal
 
 pub print_group-returns : goal.print_group-returns
@@ -29,9 +29,6 @@ print_factor-returns-in_ok-push_mark-in-Not t c =
     on_ok c.print_factor.result (adds_not _ _ _ c.args.factor.now c.in-Not.inner c.get.result.now c.in-Not.is c.get.ensures c.in_ok-push_mark-in-Not.ensures) c.print_factor.ensures
 
 -- what is inside weighs less
-
-pub print_factor-print_group-requires : goal.print_factor-print_group-requires
-print_factor-print_group-requires t c = let is = ap weight c.in-Group.is ∙ weight-Group c.in-Group.terms in (omega (arith, is, c.decreases), tt)
 
 pub print_term-print_factor-requires-in-loop-factor : goal.print_term-print_factor-requires-in-loop-factor
 print_term-print_factor-requires-in-loop-factor t c =
