@@ -78,6 +78,11 @@ impl Code {
 }
 
 impl fmt::Display for Code {
+    ghost use Rattle.std.specs.Prelude.{Some};
+    ghost use Rattle.cv_deploy.specs.Faults.{word_of};
+
+    ghost output = { λ c. Some (word_of c) };
+
     fn fmt<W: fmt::Write>(&self, f: &mut fmt::Formatter<W>) -> fmt::Result {
         f.write_str(self.word())
     }
