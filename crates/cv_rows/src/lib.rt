@@ -193,7 +193,10 @@ mod tests {
     const REFUSED: [(&str, &str); 45] = [
         // No lexemes.
         ("a : std.Constant(data=\"x", "1:23 OpenText"),
-        ("a : std.Constant(data=9223372036854775808)", "1:23 WideNumber"),
+        (
+            "a : std.Constant(data=9223372036854775808)",
+            "1:23 WideNumber",
+        ),
         ("a : io.Print()\n  ?", "2:3 BadChar"),
         ("\n\n /* x", "3:2 OpenComment"),
         ("\"a\\q\" > b.c", "1:3 BadEscape"),
@@ -205,7 +208,10 @@ mod tests {
         ("a : A", "1:6 Unexpected"),
         ("a : A\n", "2:1 Unexpected"),
         ("null : std.Constant(data=1)", "1:6 Unexpected"),
-        ("a : io.Print() // no join\nsrc.token > \n", "3:1 Unexpected"),
+        (
+            "a : io.Print() // no join\nsrc.token > \n",
+            "3:1 Unexpected",
+        ),
         (
             "a : std.Constant(data=[[[[[[[[[[[[[[[[[1]]]]]]]]]]]]]]]]])",
             "1:39 TooDeep",
@@ -222,20 +228,47 @@ mod tests {
         ("a : std.Constant(data=0.5)", "1:1 Unbuilt"),
         ("a : std.Constant(data=x)", "1:1 Unbuilt"),
         ("a : std.Identity(dump=1)a.token>a.token", "1:1 Unbuilt"),
-        ("a : std.Identity(dump=true, dump=true)a.token>a.token", "1:1 Unbuilt"),
+        (
+            "a : std.Identity(dump=true, dump=true)a.token>a.token",
+            "1:1 Unbuilt",
+        ),
         ("a : std.Identity(data=1)a.token>a.token", "1:1 Unbuilt"),
-        ("a:std.Constant(data=1)b:io.Print(x=1)a.token>b.token", "1:1 Unbuilt"),
-        ("a : std.Constant(data=1)\na : std.Constant(data=1)", "1:1 Unbuilt"),
+        (
+            "a:std.Constant(data=1)b:io.Print(x=1)a.token>b.token",
+            "1:1 Unbuilt",
+        ),
+        (
+            "a : std.Constant(data=1)\na : std.Constant(data=1)",
+            "1:1 Unbuilt",
+        ),
         ("a : std.Constant(data=1)\na.nope > a.nope", "1:1 Unbuilt"),
-        ("a:std.Constant(data=1)b:io.Print()a.nope>b.token", "1:1 Unbuilt"),
-        ("a:std.Constant(data=1)b:io.Print()a.token>b.nope", "1:1 Unbuilt"),
-        ("a:std.Constant(data=1)b:io.Print()c.token>b.token", "1:1 Unbuilt"),
+        (
+            "a:std.Constant(data=1)b:io.Print()a.nope>b.token",
+            "1:1 Unbuilt",
+        ),
+        (
+            "a:std.Constant(data=1)b:io.Print()a.token>b.nope",
+            "1:1 Unbuilt",
+        ),
+        (
+            "a:std.Constant(data=1)b:io.Print()c.token>b.token",
+            "1:1 Unbuilt",
+        ),
         // Inports that are joined not once, and an outport that is joined twice.
         ("a : io.Print()", "1:1 Unbuilt"),
-        ("a:std.Constant(data=1)c:std.Constant(data=1)b:io.Print()a.token>b.token c.token>b.token", "1:1 Unbuilt"),
-        ("a:std.Constant(data=1)b:io.Print()c:io.Print()a.token>b.token a.token>c.token", "1:1 Unbuilt"),
+        (
+            "a:std.Constant(data=1)c:std.Constant(data=1)b:io.Print()a.token>b.token c.token>b.token",
+            "1:1 Unbuilt",
+        ),
+        (
+            "a:std.Constant(data=1)b:io.Print()c:io.Print()a.token>b.token a.token>c.token",
+            "1:1 Unbuilt",
+        ),
         // Joins and statements of other forms.
-        ("a:std.Constant(data=1)b:io.Print()c:io.Print()a.token>b.token, c.token", "1:1 Unbuilt"),
+        (
+            "a:std.Constant(data=1)b:io.Print()c:io.Print()a.token>b.token, c.token",
+            "1:1 Unbuilt",
+        ),
         ("b:io.Print() 5 > b.token", "1:1 Unbuilt"),
         ("b:io.Print() X > b.token", "1:1 Unbuilt"),
         ("b:io.Print() voidport > b.token", "1:1 Unbuilt"),
