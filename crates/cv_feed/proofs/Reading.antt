@@ -1,5 +1,5 @@
 -- Readings of streams: how they are joined, and that there is one.
-use Rattle.std.proofs.Common.{◌≡◌, ℕ, ◌+◌, ◌<◌, length, List, [], ◌∷◌, ◌++◌, take, drop, refl, sym, ap, ◌∙◌, subst, append_assoc, append-nil}
+use Rattle.std.proofs.Common.{◌≡◌, ℕ, ◌+◌, ◌<◌, length, List, [], ◌∷◌, ◌++◌, take, drop, refl, sym, ap, ◌∙◌, subst, arith, append_assoc, append-nil, length-append}
 use Rattle.std.proofs.lemmas.List.{take-append-drop, drop-drop}
 use Rattle.cv_feed.specs.Streams.{HasNone, IsSilent, Waits, Reads, Takes, HasOneReading, ReadsByPieces}
 
@@ -60,3 +60,10 @@ pub silent_now : {M F : Type 0} (Spells : M → List ℕ → Type 0) (Due : F �
 silent_now Spells Due need bytes waits short =
     subst (λ (b : List ℕ). IsSilent Spells Due b) (append-nil bytes)
     (waits [] (subst (λ (b : List ℕ). length b < need) (sym (append-nil bytes)) short))
+
+-- what is silent waits for one byte more
+pub waits_next : {M F : Type 0} (Spells : M → List ℕ → Type 0) (Due : F → List ℕ → Type 0) (bytes : List ℕ)
+    → IsSilent Spells Due bytes → Waits Spells Due (length bytes + 1) bytes
+waits_next Spells Due bytes silent [] short =
+    subst (λ (b : List ℕ). IsSilent Spells Due b) (sym (append-nil bytes)) silent
+waits_next Spells Due bytes silent (b ∷ more) short = absurd (omega (arith, short, length-append bytes (b ∷ more)))

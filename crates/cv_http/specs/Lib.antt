@@ -1,0 +1,10 @@
+pub mod Fields
+pub mod Fronts
+pub mod HeadLaws
+pub mod Heads
+pub mod RequestLaws
+pub mod Requests
+pub mod Responses
+pub mod State
+pub mod WindowLaws
+pub mod Windows

@@ -1,0 +1,20 @@
+//! What holds of every stream of requests, however it was cut into pieces.
+
+ghost use Rattle.cv_feed.specs.Streams.{HasOneReading, ReadsByPieces};
+ghost use Rattle.cv_http.specs.Requests.{Spells};
+
+use crate::format::Requests;
+
+/// A stream has one reading up to where no request stands whole, so what a feed reads does not depend on the cut.
+pub fn one_reading()
+    ensures { HasOneReading Spells }
+{
+    cv_feed::one_reading::<Requests>();
+}
+
+/// A reading of a first piece and one of what it left with the second piece are one reading of both.
+pub fn any_cut()
+    ensures { ReadsByPieces Spells }
+{
+    cv_feed::any_cut::<Requests>();
+}
