@@ -1,18 +1,18 @@
 -- What the front of bytes is, from what the parser answers of its window.
-use Rattle.std.proofs.Common.{◌≡◌, ℕ, ◌+◌, ◌-◌, ◌<◌, ◌≤◌, Bool, true, false, cond, List, [], ◌∷◌, ◌++◌, length, take, drop, refl, sym, ap, ◌∙◌, subst, arith, append_assoc, append-nil, length-append}
-use Rattle.std.specs.Prelude.{◌⊎◌, Ok, Err, Result}
+use Rattle.std.proofs.Common.{◌≡◌, ℕ, ◌+◌, ◌<◌, ◌≤◌, Bool, true, false, cond, List, [], ◌++◌, length, take, drop, sym, ap, ◌∙◌, subst, arith, append-nil, length-append}
+use Rattle.std.specs.Prelude.{Ok, Err, Result}
 use Rattle.std.proofs.Common.{inl, inr}
 use Rattle.std.proofs.lemmas.List.{drop_at, length-take}
 use Rattle.std.proofs.Math.Seq.{take-append-add}
 use Rattle.httparse.specs.Grammar.{RequestHead, print_request, ReadsRequest, HasNoRequest, NeverHasRequest, MayBecomeRequest}
-use Rattle.httparse.specs.Spans.{RequestOverflows, IsRequestAt, header_bytes, name_and_value}
+use Rattle.httparse.specs.Spans.{RequestOverflows, IsRequestAt}
 use Rattle.httparse.specs.declared.spans.HeaderSpan.{HeaderSpan}
 use Rattle.httparse.specs.declared.spans.RequestSpans.{RequestSpans}
 use Rattle.std.proofs.lemmas.List.{length-map}
 use Rattle.cv_feed.specs.Streams.{HasNone, IsSilent, Waits}
 use Rattle.cv_http.specs.Windows.{window, is_full}
 use Rattle.cv_http.specs.Heads.{Begins, pairs_of, HasNoHead, MayWait}
-use Rattle.cv_http.specs.Fields.{body_of, closes}
+use Rattle.cv_http.specs.Fields.{body_of}
 use Rattle.cv_http.specs.Fronts.{IsHeadOf, ForMore}
 use Rattle.cv_http.specs.declared.front.Front.{Front}
 use Rattle.cv_http.specs.declared.front.Front.TheVariants as F

@@ -1,3 +1,4 @@
 mod FieldLemmas
 mod FrontLemmas
 mod WindowLemmas
+mod ResponseLemmas

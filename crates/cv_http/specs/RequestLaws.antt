@@ -1,21 +1,15 @@
 -- A request is told by its first bytes, and none begins where a fault stands, whatever follows.
-use Rattle.std.proofs.Common.{◌≡◌, ℕ, ◌+◌, ◌-◌, ◌<◌, ◌≤◌, Bool, true, false, List, [], ◌∷◌, ◌++◌, length, take, drop, refl, sym, ap, ◌∙◌, subst, arith, append_assoc, append-nil, length-append}
-use Rattle.std.specs.Prelude.{◌⊎◌, Ok, Err, Result}
-use Rattle.std.proofs.Common.{inl, inr}
-use Rattle.std.proofs.lemmas.List.{take_at, drop_at, take-append-le}
-use Rattle.httparse.specs.Grammar.{RequestHead, print_request, ReadsRequest, HasNoRequest, NeverHasRequest, MayBecomeRequest}
-use Rattle.httparse.specs.Spans.{RequestOverflows, RequestExceeds}
-use Rattle.cv_feed.specs.Streams.{HasNone, IsSilent, Waits}
+use Rattle.std.proofs.Common.{◌≡◌, ℕ, ◌<◌, true, List, ◌++◌, length, take, drop, refl, sym, ap, ◌∙◌, subst, arith, append_assoc, length-append}
+use Rattle.std.specs.Prelude.{Ok, Err, Result}
+use Rattle.std.proofs.lemmas.List.{take_at, drop_at}
+use Rattle.httparse.specs.Grammar.{RequestHead, print_request, ReadsRequest, NeverHasRequest}
 use Rattle.cv_http.specs.Windows.{window, is_full}
-use Rattle.cv_http.specs.Heads.{Begins, pairs_of, HasNoHead, MayWait}
+use Rattle.cv_http.specs.Heads.{Begins, pairs_of, HasNoHead}
 use Rattle.cv_http.specs.Fields.{body_of, closes}
-use Rattle.cv_http.specs.Fronts.{IsHeadOf}
-use Rattle.cv_http.specs.Requests.{Spells, HasFault, Stands, Due}
-use Rattle.cv_http.specs.declared.front.Head.{Head}
+use Rattle.cv_http.specs.Requests.{Spells, HasFault, Stands}
 use Rattle.cv_http.specs.declared.fault.HttpFault.{HttpFault}
 use Rattle.cv_http.specs.declared.fault.HttpFault.TheVariants.{BadHead, HeadTooLong, BodyTooLong, Coding, BadLength, OutOfMemory}
 use Rattle.cv_http.specs.declared.request.Request.{Request}
-use Rattle.cv_http.specs.declared.window.TheConstants.{MOST_FIELDS}
 use Rattle.cv_http.specs.WindowLaws.{window_more, window_full}
 use Rattle.cv_http.specs.HeadLaws.{head_in_window, begins_unique, begins_more, head_some}
 

@@ -1,5 +1,5 @@
 -- Which bytes are a request, and which fault stands in a request's place.
-use Rattle.std.specs.Prelude.{◌≡◌, ℕ, ◌≤◌, true, List, ◌++◌, length, Ok, Err}
+use Rattle.std.specs.Prelude.{◌≡◌, ℕ, true, List, length, Ok, Err}
 use Rattle.httparse.specs.Grammar.{RequestHead, NeverHasRequest}
 use Rattle.cv_http.specs.Windows.{window, is_full}
 use Rattle.cv_http.specs.Heads.{Begins, pairs_of, HasNoHead, MayWait}

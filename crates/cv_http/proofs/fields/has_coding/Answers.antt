@@ -1,5 +1,4 @@
-use Rattle.std.proofs.Common.{◌≡◌, sym, ap, ◌∙◌}
-use Rattle.httparse.specs.declared.spans.HeaderSpan.{HeaderSpan}
+use Rattle.std.proofs.Common.{sym, ◌∙◌}
 use Rattle.httparse.specs.Spans.{header_bytes}
 use Rattle.cv_http.specs.Fields.{is_coding}
 use Rattle.cv_http.proofs.FieldLemmas.{any_at_map, no_header}

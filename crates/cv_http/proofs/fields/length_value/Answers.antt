@@ -1,5 +1,5 @@
 use Rattle.std.proofs.Common.{length, refl, sym, ap, ◌∙◌, subst, arith}
-use Rattle.std.specs.Prelude.{codes, option_map, option_to_list, IfSome, Option}
+use Rattle.std.specs.Prelude.{codes, option_map, option_to_list, IfSome}
 use Rattle.httparse.specs.Spans.{IsWithin, header_bytes, span_bytes}
 use Rattle.http1.specs.Text.{eq_ignore_case}
 use Rattle.cv_http.proofs.FieldLemmas.{two_values, some_value, first_value, other_value, no_header}

@@ -1,10 +1,6 @@
-use Rattle.std.proofs.Common.{◌≡◌, None, Ok, Err, sym, ap, ◌∙◌, subst}
-use Rattle.std.specs.Prelude.{Result}
-use Rattle.cv_feed.specs.declared.format.Refusal.{Refusal}
+use Rattle.std.proofs.Common.{◌≡◌, Err, sym, ap, ◌∙◌}
 use Rattle.cv_feed.specs.declared.format.Refusal.TheVariants as R
-use Rattle.cv_http.specs.declared.fault.HttpFault.{HttpFault}
 use Rattle.cv_http.specs.declared.fault.HttpFault.TheVariants.{OutOfMemory}
-use Rattle.cv_http.specs.Requests.{Stands}
 use Rattle.cv_http.proofs.feed.Feed.push.Goals as goal
 use Rattle.cv_http.proofs.feed.Feed.push.Goals.{in-Ok, in-Err-Fault, in-Err-OutOfMemory}
 
@@ -14,10 +10,10 @@ returns-clause-told c f fresh is other =
     elim c.match-push.branch [
       | in-Ok w ↦ absurd (let e = w.result-is in cc)
       | in-Err-Fault w ↦
-        let e = w.result-is in
-        let same : w.in-Err-Fault.fault ≡ f = cc in
-        c.push.ensures.told f before
-        (w.in-Err-Fault.is ∙ ap Err w.in-Err-Fault.field-0-is ∙ ap (λ g. Err (R.Fault g)) same)
+          let e = w.result-is in
+          let same : w.in-Err-Fault.fault ≡ f = cc in
+          c.push.ensures.told f before
+          (w.in-Err-Fault.is ∙ ap Err w.in-Err-Fault.field-0-is ∙ ap (λ g. Err (R.Fault g)) same)
       | in-Err-OutOfMemory w ↦ absurd (let e = w.result-is in let same : f ≡ OutOfMemory = cc in other same)
     ]
 
@@ -28,10 +24,10 @@ returns-clause-unchanged c refused =
     elim c.match-push.branch [
       | in-Ok w ↦ absurd (let e = w.result-is in cc)
       | in-Err-Fault w ↦
-        let e = w.result-is in
-        let same : w.in-Err-Fault.fault ≡ OutOfMemory = cc in
-        absurd (c.push.ensures.told OutOfMemory before
-        (w.in-Err-Fault.is ∙ ap Err w.in-Err-Fault.field-0-is ∙ ap (λ g. Err (R.Fault g)) same)).1
+          let e = w.result-is in
+          let same : w.in-Err-Fault.fault ≡ OutOfMemory = cc in
+          absurd (c.push.ensures.told OutOfMemory before
+          (w.in-Err-Fault.is ∙ ap Err w.in-Err-Fault.field-0-is ∙ ap (λ g. Err (R.Fault g)) same)).1
       | in-Err-OutOfMemory w ↦ w.in-Err-OutOfMemory.is ∙ ap Err w.in-Err-OutOfMemory.field-0-is
     ]) in
     (λ i. record { waiting = kept.0 i; rest = kept.1 i; fault = kept.2 i }) ∙ c.self.view_is

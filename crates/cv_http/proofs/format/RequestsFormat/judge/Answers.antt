@@ -1,4 +1,4 @@
-use Rattle.std.proofs.Common.{◌≡◌, ℕ, ◌+◌, ◌-◌, ◌<◌, ◌≤◌, length, take, drop, ap, ◌∙◌, arith}
+use Rattle.std.proofs.Common.{◌≡◌, ℕ, ◌+◌, ◌-◌, take, drop, ap, ◌∙◌, arith}
 use Rattle.cv_feed.proofs.Reading.{waits_next}
 use Rattle.cv_http.specs.Requests.{Spells, Due}
 use Rattle.cv_http.proofs.FrontLemmas.{sized, waits_body, request_of}
