@@ -4,7 +4,7 @@ use Rattle.std.specs.Prelude.{◌⊎◌}
 use Rattle.std.proofs.Common.{inl, inr}
 use Rattle.std.proofs.lemmas.Bool.{eqb-true, eqb-false}
 use Rattle.std.proofs.lemmas.List.Sums.{sum_by-cons}
-use Rattle.cv_http.specs.Windows.{window_at, window, line_feeds, is_full}
+use Rattle.cv_http.specs.Windows.{window_at, window, line_feeds, is_full, IsWindow}
 use Rattle.cv_http.specs.declared.window.TheConstants.{MOST_HEAD, MOST_LINES}
 
 -- the lines that are left behind a byte
@@ -83,6 +83,31 @@ at_room (suc room) (suc lines) (b ∷ bytes) short few =
     ap (λ (v : List ℕ). b ∷ v) (at_room room (lines_behind b lines) bytes (λ e. short (omega arith))
     (λ e. few ((feeds_behind b lines w).1 e)))
 
+-- nothing stands behind the last of so many line feeds
+at_few : (room lines : ℕ) (bytes before rest : List ℕ) (b : ℕ) → window_at room lines bytes ≡ before ++ b ∷ rest
+    → line_feeds before < lines
+unfolding window_at
+at_few zero lines bytes [] rest b e = absurd (cc)
+at_few zero lines bytes (f ∷ before) rest b e = absurd (cc)
+at_few (suc room) zero bytes [] rest b e = absurd (cc)
+at_few (suc room) zero bytes (f ∷ before) rest b e = absurd (cc)
+at_few (suc room) (suc lines) [] [] rest b e = absurd (cc)
+at_few (suc room) (suc lines) [] (f ∷ before) rest b e = absurd (cc)
+at_few (suc room) (suc lines) (c ∷ bytes) [] rest b e = omega arith
+at_few (suc room) (suc lines) (c ∷ bytes) (f ∷ before) rest b e =
+    let first : c ≡ f = cc in
+    let later : window_at room (lines_behind c lines) bytes ≡ before ++ b ∷ rest = cc in
+    let few = at_few room (lines_behind c lines) bytes before rest b later in
+    one_more f lines before (subst (λ (d : ℕ). line_feeds before < lines_behind d lines) first few)
+  where
+    one_more : (d n : ℕ) (w : List ℕ) → line_feeds w < lines_behind d n → line_feeds (d ∷ w) < suc n
+    one_more d n w = by_test (eqb d 10) (sum_by-cons (λ x. cond (eqb x 10) 1 0) d w)
+      where
+        by_test : (t : Bool) → line_feeds (d ∷ w) ≡ cond t 1 0 + line_feeds w
+            → line_feeds w < cond t n (suc n) → line_feeds (d ∷ w) < suc n
+        by_test true count few = omega arith
+        by_test false count few = omega arith
+
 at_most : (room lines : ℕ) (bytes : List ℕ) → length (window_at room lines bytes) ≤ room
 unfolding window_at
 at_most zero lines bytes = omega arith
@@ -132,3 +157,11 @@ window_short bytes room =
     let no = neither (eqb (length w) MOST_HEAD) (eqb (line_feeds w) MOST_LINES) room in
     let other : length w ≢ MOST_HEAD = eqb-false (length w) MOST_HEAD no.0 in
     omega (arith, other, window_most bytes, ap length (window_room bytes room))
+
+pub window_is : (bytes : List ℕ) → IsWindow (window bytes) bytes
+window_is bytes = record {
+  front = window_front bytes;
+  short = window_most bytes;
+  few = λ before rest b. at_few MOST_HEAD MOST_LINES bytes before rest b;
+  longest = λ short few. at_room MOST_HEAD MOST_LINES bytes (λ e. omega arith) (λ e. omega arith);
+}

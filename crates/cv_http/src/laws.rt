@@ -1,7 +1,9 @@
 //! What holds of every stream of requests, however it was cut into pieces.
 
 ghost use Rattle.cv_feed.specs.Streams.{HasOneReading, ReadsByPieces};
+ghost use Rattle.std.specs.Prelude.{ℕ, List};
 ghost use Rattle.cv_http.specs.Requests.{Spells};
+ghost use Rattle.cv_http.specs.Windows.{window, IsWindow};
 
 use crate::format::Requests;
 
@@ -18,3 +20,8 @@ pub fn any_cut()
 {
     cv_feed::any_cut::<Requests>();
 }
+
+/// The window of bytes is the longest front of them that has at most 16,384 bytes and nothing behind a 66th line feed.
+pub fn windows()
+    ensures { (bytes : List ℕ) → IsWindow (window bytes) bytes }
+{}
