@@ -1,12 +1,12 @@
 -- A request is told by its first bytes, and none begins where a fault stands, whatever follows.
-use Rattle.std.proofs.Common.{◌≡◌, ℕ, ◌<◌, true, List, ◌++◌, length, take, drop, refl, sym, ap, ◌∙◌, subst, arith, append_assoc, length-append}
-use Rattle.std.specs.Prelude.{Ok, Err, Result}
+use Rattle.std.proofs.Common.{◌≡◌, ℕ, ◌<◌, true, List, [], ◌++◌, length, take, drop, refl, sym, ap, ◌∙◌, subst, arith, append_assoc, length-append, inl, inr}
+use Rattle.std.specs.Prelude.{◌⊎◌, Ok, Err, Result}
 use Rattle.std.proofs.lemmas.List.{take_at, drop_at}
 use Rattle.httparse.specs.Grammar.{RequestHead, print_request, ReadsRequest, NeverHasRequest}
 use Rattle.cv_http.specs.Windows.{window, is_full}
 use Rattle.cv_http.specs.Heads.{Begins, pairs_of, HasNoHead}
 use Rattle.cv_http.specs.Fields.{body_of, closes}
-use Rattle.cv_http.specs.Requests.{Spells, HasFault, Stands}
+use Rattle.cv_http.specs.Requests.{IsOfHead, HasOneFault, Spells, HasFault, Stands}
 use Rattle.cv_http.specs.declared.fault.HttpFault.{HttpFault}
 use Rattle.cv_http.specs.declared.fault.HttpFault.TheVariants.{BadHead, HeadTooLong, BodyTooLong, Coding, BadLength, OutOfMemory}
 use Rattle.cv_http.specs.declared.request.Request.{Request}
@@ -81,3 +81,55 @@ stuck BadLength m bytes more front rest stands s e =
     fault_or_body BadLength (length m.body) bytes more s.head (m.body ++ rest) stands
     (spells_begins m front (bytes ++ more) rest s e) s.whole
 stuck OutOfMemory m bytes more front rest stands s e = absurd stands
+
+-- ---- one fault
+
+-- the fields of a head have one fault
+field_faults : (f g : HttpFault) (bytes more : List ℕ) → HasFault f bytes → HasFault g (bytes ++ more) → f ≡ g
+field_faults f g bytes more x y =
+    let same = begins_unique (bytes ++ more) x.0 y.0 (x.1 ++ more) y.1 (begins_more bytes more x.0 x.1 x.2) y.2 in
+    let both : ◌≡◌ {A = Result ℕ HttpFault} (Err f) (Err g) = sym x.3 ∙ ap (λ h. body_of (pairs_of h)) same.0 ∙ y.3 in
+    cc
+
+-- a head stands where its fields have a fault, and none where a fault of the head does
+head_of_fields : (f : HttpFault) (bytes : List ℕ) → HasFault f bytes → (g : HttpFault) → IsOfHead g → ¬ (Stands g bytes)
+head_of_fields f bytes x BadHead of stands = never_head bytes [] x.0 (x.1 ++ []) stands (begins_more bytes [] x.0 x.1 x.2)
+head_of_fields f bytes x HeadTooLong of stands =
+    full_head bytes [] x.0 (x.1 ++ []) stands.0 stands.1 (begins_more bytes [] x.0 x.1 x.2)
+head_of_fields f bytes x BodyTooLong of stands = of
+head_of_fields f bytes x Coding of stands = of
+head_of_fields f bytes x BadLength of stands = of
+head_of_fields f bytes x OutOfMemory of stands = of
+
+fields_behind : (f : HttpFault) (bytes more : List ℕ) → HasFault f bytes → HasFault f (bytes ++ more)
+fields_behind f bytes more x = (x.0, x.1 ++ more, begins_more bytes more x.0 x.1 x.2, x.3)
+
+-- a fault is one of the head or one of the fields
+sort_of : (f : HttpFault) (bytes : List ℕ) → Stands f bytes → IsOfHead f ⊎ HasFault f bytes
+sort_of BadHead bytes stands = inl tt
+sort_of HeadTooLong bytes stands = inl tt
+sort_of BodyTooLong bytes stands = inr stands
+sort_of Coding bytes stands = inr stands
+sort_of BadLength bytes stands = inr stands
+sort_of OutOfMemory bytes stands = absurd stands
+
+-- where no head can come, none does
+head_stays : (f : HttpFault) (bytes more : List ℕ) → IsOfHead f → Stands f bytes → (g : HttpFault) → ¬ (HasFault g (bytes ++ more))
+head_stays BadHead bytes more of stands g y = never_head bytes more y.0 y.1 stands y.2
+head_stays HeadTooLong bytes more of stands g y = full_head bytes more y.0 y.1 stands.0 stands.1 y.2
+head_stays BodyTooLong bytes more of stands g y = of
+head_stays Coding bytes more of stands g y = of
+head_stays BadLength bytes more of stands g y = of
+head_stays OutOfMemory bytes more of stands g y = of
+
+pub one_fault : HasOneFault
+one_fault f g bytes more x y = elim (sort_of f bytes x) [
+  | inl head ↦ elim (sort_of g (bytes ++ more) y) [
+    | inl other ↦ inr (head, other)
+    | inr fields ↦ absurd (head_stays f bytes more head x g fields)
+  ]
+  | inr fields ↦ elim (sort_of g (bytes ++ more) y) [
+    | inl head ↦ absurd (head_of_fields f (bytes ++ more) (fields_behind f bytes more fields) g head y)
+    | inr others ↦ inl (field_faults f g bytes more fields others)
+  ]
+]

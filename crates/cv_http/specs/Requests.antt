@@ -1,5 +1,5 @@
 -- Which bytes are a request, and which fault stands in a request's place.
-use Rattle.std.specs.Prelude.{◌≡◌, ℕ, true, List, length, Ok, Err}
+use Rattle.std.specs.Prelude.{◌≡◌, ℕ, ◌⊎◌, true, List, ◌++◌, length, Ok, Err, ⊤}
 use Rattle.httparse.specs.Grammar.{RequestHead, NeverHasRequest}
 use Rattle.cv_http.specs.Windows.{window, is_full}
 use Rattle.cv_http.specs.Heads.{Begins, pairs_of, HasNoHead, MayWait}
@@ -39,3 +39,24 @@ Due BodyTooLong bytes = HasFault BodyTooLong bytes
 Due Coding bytes = HasFault Coding bytes
 Due BadLength bytes = HasFault BadLength bytes
 Due OutOfMemory bytes = ⊥
+
+-- where a fault stands no request begins, whatever follows
+abbrev pub HasNoRequests : Type 0
+HasNoRequests =
+    (f : HttpFault) (r : Request) (bytes more front rest : List ℕ) → Stands f bytes → Spells r front
+    → ¬ (bytes ++ more ≡ front ++ rest)
+
+-- a fault of the head itself
+abbrev pub IsOfHead : HttpFault → Type 0
+IsOfHead BadHead = ⊤
+IsOfHead HeadTooLong = ⊤
+IsOfHead BodyTooLong = ⊥
+IsOfHead Coding = ⊥
+IsOfHead BadLength = ⊥
+IsOfHead OutOfMemory = ⊥
+
+-- one fault stands at one place, however much of the stream has come, but for the two of the head
+abbrev pub HasOneFault : Type 0
+HasOneFault =
+    (f g : HttpFault) (bytes more : List ℕ) → Stands f bytes → Stands g (bytes ++ more)
+    → (f ≡ g) ⊎ (IsOfHead f × IsOfHead g)

@@ -2,7 +2,7 @@
 
 ghost use Rattle.cv_feed.specs.Streams.{HasOneReading, ReadsByPieces};
 ghost use Rattle.std.specs.Prelude.{ℕ, List};
-ghost use Rattle.cv_http.specs.Requests.{Spells};
+ghost use Rattle.cv_http.specs.Requests.{Spells, HasNoRequests, HasOneFault};
 ghost use Rattle.cv_http.specs.Windows.{window, IsWindow};
 
 use crate::format::Requests;
@@ -24,4 +24,14 @@ pub fn any_cut()
 /// The window of bytes is the longest front of them that has at most 16,384 bytes and nothing behind a 66th line feed.
 pub fn windows()
     ensures { (bytes : List ℕ) → IsWindow (window bytes) bytes }
+{}
+
+/// Where a fault stands no request begins, whatever follows.
+pub fn no_request_at_a_fault()
+    ensures { HasNoRequests }
+{}
+
+/// One fault stands at one place, however much of the stream has come, but for the two of the head.
+pub fn one_fault()
+    ensures { HasOneFault }
 {}

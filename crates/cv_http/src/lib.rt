@@ -14,7 +14,7 @@ pub mod window;
 
 pub use fault::HttpFault;
 pub use feed::Feed;
-pub use laws::{any_cut, one_reading, windows};
+pub use laws::{any_cut, no_request_at_a_fault, one_fault, one_reading, windows};
 pub use length::MOST_BODY;
 pub use request::{Body, Request};
 pub use response::respond;
