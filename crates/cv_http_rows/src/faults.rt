@@ -1,6 +1,6 @@
 //! Which bytes are requests, and which have a fault.
 
-use super::fed;
+use super::{Reading, fed};
 use cv_http::HttpFault;
 use std::test::Fail;
 
@@ -222,17 +222,22 @@ const ROWS: [Row; 45] = [
     ),
 ];
 
+fn is_read_so(read: &Reading, row: &Row) -> bool {
+    let closes = match read.requests.last() {
+        Some(last) => last.close,
+        None => false,
+    };
+    read.requests.len() == row.1 && read.fault == row.2 && closes == row.3
+}
+
 #[test]
 fn streams_are_read_up_to_their_fault(rt: HostRuntime) -> Result<(), Fail> {
     let alloc = rt.alloc();
-    for Row(stream, count, fault, close) in &ROWS {
+    for row in &ROWS {
         for most in [1, 7, 1000] {
-            let read = fed(alloc, stream.as_bytes(), most, 5)?;
-            assert_eq!(rt; read.requests.len(), *count, "{stream:?} by {most}");
-            assert_eq!(rt; read.fault, *fault, "{stream:?} by {most}");
-            if let Some(last) = read.requests.last() {
-                assert_eq!(rt; last.close, *close, "{stream:?} by {most}");
-            }
+            let read = fed(alloc, row.0.as_bytes(), most, 5)?;
+            let stream = row.0;
+            assert!(rt; is_read_so(&read, row), "{stream}");
         }
     }
     Ok(())
@@ -243,7 +248,7 @@ fn a_target_that_is_no_text_is_refused(rt: HostRuntime) -> Result<(), Fail> {
     let alloc = rt.alloc();
     for most in [1, 1000] {
         let read = fed(alloc, b"GET /\xff HTTP/1.1\r\n\r\n", most, 5)?;
-        assert_eq!(rt; read.fault, Some(HttpFault::BadHead), "by {most}");
+        assert!(rt; read.fault == Some(HttpFault::BadHead));
     }
     Ok(())
 }

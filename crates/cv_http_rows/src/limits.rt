@@ -58,16 +58,12 @@ fn the_bytes_of_a_head_are_bounded(rt: HostRuntime) -> Result<(), Fail> {
     assert_eq!(rt; fits.len(), 16_384);
     assert_eq!(rt; over.len(), 16_385);
     for most in [100, 100_000] {
-        assert!(rt;
-            is_taken(&fed(alloc, fits.as_bytes(), most, 1)?),
-            "by {most}"
-        );
+        assert!(rt; is_taken(&fed(alloc, fits.as_bytes(), most, 1)?));
         assert!(rt;
             is_refused(
                 &fed(alloc, over.as_bytes(), most, 1)?,
                 HttpFault::HeadTooLong
-            ),
-            "by {most}"
+            )
         );
     }
     let letters = vec![in alloc; b'a'; MOST_HEAD]?;
@@ -101,11 +97,11 @@ fn the_lines_of_a_head_are_bounded(rt: HostRuntime) -> Result<(), Fail> {
         for most in [1, 40, 100_000] {
             let read = fed(alloc, text.as_bytes(), most, 9)?;
             if taken {
-                assert!(rt; is_taken(&read), "{blank} and {fields} by {most}");
+                assert!(rt; is_taken(&read), "{blank} {fields}");
             } else {
                 assert!(rt;
                     is_refused(&read, HttpFault::HeadTooLong),
-                    "{blank} and {fields} by {most}"
+                    "{blank} {fields}"
                 );
             }
         }
