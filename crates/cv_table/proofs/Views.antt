@@ -8,9 +8,10 @@ use Rattle.std.specs.FinMap as fin
 use Rattle.std.specs.FinMap.{FinMap, IsAntisymmetric, find, entries, get-entries, get-insert, get-remove, get-retain_keys, get-from_entries, same_map}
 use Rattle.cv_token.specs.declared.identifiers.AppId.{AppId}
 use Rattle.cv_token.specs.declared.identifiers.ActorId.{ActorId}
-use Rattle.cv_table.specs.Order.{app_cmp, actor_cmp, same_app, same_actor}
+use Rattle.cv_token.specs.declared.identifiers.ConnId.{ConnId}
+use Rattle.cv_table.specs.Order.{app_cmp, actor_cmp, conn_cmp, same_app, same_actor, same_conn}
 use Rattle.cv_table.specs.Held.{change_entries, map_values}
-use Rattle.cv_table.proofs.Orders.{app_cmp_total, actor_cmp_total, app_cmp-IsAntisymmetric, actor_cmp-IsAntisymmetric, same_app-ties, same_actor-ties}
+use Rattle.cv_table.proofs.Orders.{app_cmp_total, actor_cmp_total, conn_cmp_total, app_cmp-IsAntisymmetric, actor_cmp-IsAntisymmetric, conn_cmp-IsAntisymmetric, same_app-ties, same_actor-ties, same_conn-ties}
 
 module _ {K : Type 0} {R : K → K → Ordering} (o : IsTotalOrder R) where
   put_back : {V : Type 0} (m : FinMap R V) (k : K) (v : V) → fin.get m k ≡ Some v → (q : K) (b : Bool) → eq_by_cmp R q k ≡ b → cond b (Some v) (fin.get m q) ≡ fin.get m q
@@ -70,3 +71,11 @@ same_app-cases a b = cases app_cmp_total app_cmp-IsAntisymmetric same_app same_a
 
 pub get_app_inserted : {V : Type 0} (m : FinMap app_cmp V) (k : AppId) (v : V) (q : AppId) → fin.get (fin.insert m k v) q ≡ cond (same_app q k) (Some v) (fin.get m q)
 get_app_inserted m k v q = get-insert app_cmp_total m k v q ∙ ap (λ b. cond b (Some v) (fin.get m q)) (sym (same_app-ties q k))
+
+-- by connection
+
+pub same_conn-cases : (a b : ConnId) → ((same_conn a b ≡ true) × (a ≡ b)) ⊎ ((same_conn a b ≡ false) × ((a ≡ b) → ⊥))
+same_conn-cases a b = cases conn_cmp_total conn_cmp-IsAntisymmetric same_conn same_conn-ties a b
+
+pub get_conn_inserted : {V : Type 0} (m : FinMap conn_cmp V) (k : ConnId) (v : V) (q : ConnId) → fin.get (fin.insert m k v) q ≡ cond (same_conn q k) (Some v) (fin.get m q)
+get_conn_inserted m k v q = get-insert conn_cmp_total m k v q ∙ ap (λ b. cond b (Some v) (fin.get m q)) (sym (same_conn-ties q k))

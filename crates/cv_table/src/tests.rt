@@ -1,7 +1,7 @@
 //! Each call with ample memory.
 
 use super::*;
-use cv_token::{ActorId, AppId};
+use cv_token::{ActorId, AppId, ConnId};
 use std::process::Abort;
 use std::test::Fail;
 
@@ -74,7 +74,7 @@ fn actors_stand_in_order(rt: HostRuntime) -> Result<(), Fail> {
 }
 
 #[test]
-fn applications_and_nodes_stand_in_order(rt: HostRuntime) -> Result<(), Fail> {
+fn the_others_stand_in_order(rt: HostRuntime) -> Result<(), Fail> {
     let mut apps = AppTable::new(rt.alloc());
     apps.reserve(3)?;
     for (place, app) in APPS.iter().enumerate() {
@@ -83,6 +83,18 @@ fn applications_and_nodes_stand_in_order(rt: HostRuntime) -> Result<(), Fail> {
     assert_eq!(&rt; apps.len(), 3);
     assert!(&rt; apps.key_at(0) == Some(APPS[2]));
     is_value(&rt, apps.get(APPS[1]), 1);
+    let mut conns = ConnTable::new(rt.alloc());
+    conns.reserve(2)?;
+    for place in [7, 3] {
+        let conn = ConnId {
+            app: APPS[0],
+            place,
+        };
+        assert!(&rt; conns.insert(conn, u64::from(place))?.is_none());
+        is_value(&rt, conns.get(conn), u64::from(place));
+    }
+    assert_eq!(&rt; conns.len(), 2);
+    assert!(&rt; conns.key_at(2).is_none());
     let mut nodes = NodeTable::new(rt.alloc());
     nodes.reserve(2)?;
     assert!(&rt; nodes.insert(9, 90u64)?.is_none());
