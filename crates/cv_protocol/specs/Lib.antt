@@ -1,0 +1,11 @@
+pub mod Actors
+pub mod Deliveries
+pub mod Journals
+pub mod Kinds
+pub mod Laws
+pub mod NodeRow
+pub mod NodeState
+pub mod Owners
+pub mod Poll
+pub mod Rows
+pub mod Travel

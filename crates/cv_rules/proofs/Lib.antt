@@ -1,0 +1,2 @@
+pub mod Unders
+pub mod Keyless

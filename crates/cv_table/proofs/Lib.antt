@@ -1,0 +1,5 @@
+pub mod Changes
+pub mod Loans
+pub mod Maps
+pub mod Orders
+pub mod Views

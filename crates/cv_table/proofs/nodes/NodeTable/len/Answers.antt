@@ -1,0 +1,9 @@
+use Rattle.std.proofs.Common.{sym, ap, ◌∙◌}
+use Rattle.std.specs.Cmp.{nat_cmp_total}
+use Rattle.cv_table.proofs.Maps.{len_of_sorted}
+use Rattle.std.specs.FinMap as map
+use Rattle.cv_table.proofs.nodes.NodeTable.len.Goals as goal
+
+pub returns : goal.returns
+returns g c =
+    c.len.ensures.len ∙ sym (len_of_sorted nat_cmp_total _ c.self.invariant) ∙ ap (λ t. map.len t.map) c.self.view_is
