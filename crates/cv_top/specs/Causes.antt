@@ -1,0 +1,147 @@
+-- The refusals: what each says of the words and the source, how it ends the call, and its line.
+use Rattle.std.specs.Prelude.{◌≡◌, ◌⊎◌, ℕ, ◌≤◌, ◌^◌, List, [], ◌∷◌, ◌++◌, length, Some, None, Result, Ok, Err, IsTrue, codes, Vec}
+use Rattle.std.specs.declared.option.Option.{Option}
+use Rattle.std.specs.declared.alloc.Global.{Global}
+use Rattle.std.specs.Fmt.{decimal}
+use Rattle.cv_io.specs.Faults.{Rose}
+use Rattle.cv_deploy.specs.declared.fault.Code.{Code}
+use Rattle.cv_deploy.specs.declared.fault.Code.TheVariants as code
+use Rattle.cv_deploy.specs.declared.fault.NoNetwork.{NoNetwork}
+use Rattle.cv_deploy.specs.declared.fault.NoNetwork.TheVariants as none
+use Rattle.cv_deploy.specs.Faults.{HasFault, word_of}
+use Rattle.cv_top.specs.declared.end.End.{End}
+use Rattle.cv_top.specs.declared.end.End.TheVariants as end
+use Rattle.cv_top.specs.declared.end.Refusal.{Refusal}
+use Rattle.cv_top.specs.declared.end.Refusal.TheVariants as refusal
+use Rattle.cv_top.specs.declared.words.Command.{Command}
+use Rattle.cv_top.specs.Devices.{Reading, Gave, GaveAtMost, GaveOneMore, IsSteady, IsUnread}
+use Rattle.cv_top.specs.Words.{command_of, reads_script}
+
+-- a script has at most so many bytes: one mebibyte
+abbrev pub script_limit : ℕ
+script_limit = 2 ^ 20
+
+-- ---- when each refusal comes
+
+-- the words ask for a command
+abbrev pub IsAsking : List (List ℕ) → Type 0
+IsAsking words = (c : Command) × (command_of words ≡ Some c)
+
+-- the words ask for a command that reads a script
+abbrev pub IsReading : List (List ℕ) → Type 0
+IsReading words = (c : Command) × (command_of words ≡ Some c) × IsTrue (reads_script c)
+
+-- the source gave a script that has this fault at this place
+abbrev pub GaveFault : Reading → ℕ → ℕ → Code → Type 0
+GaveFault r line col c = (bytes : List ℕ) × Gave r bytes × (length bytes ≤ script_limit) × HasFault bytes (record { line = line; col = col; code = c })
+
+-- Usage: the words are not of the form, and nothing was read. Script: the source gave a script with that fault.
+-- ReadFault: the source's count of faults rose. TooLong: the source gave one byte more than the limit. Want of memory may
+-- come in place of any other answer that takes memory, and the source did not fail then.
+abbrev pub IsCause : List (List ℕ) → Reading → Refusal → Type 0
+IsCause words r refusal.Usage = (command_of words ≡ None) × IsUnread r
+IsCause words r (refusal.Script line col c) = IsReading words × GaveFault r line col c
+IsCause words r refusal.ReadFault = IsReading words × GaveAtMost script_limit r × Rose r.before r.now
+IsCause words r refusal.TooLong = IsReading words × GaveOneMore script_limit r × IsSteady r
+IsCause words r refusal.OutOfMemory = IsAsking words × GaveAtMost script_limit r × IsSteady r
+
+-- the source was read to its end within the limit, or why it was not
+abbrev pub IsScriptRead : Reading → Result (Vec ℕ Global) Refusal → Type 0
+IsScriptRead r (Ok bytes) = Gave r bytes.items × (length bytes.items ≤ script_limit)
+IsScriptRead r (Err refusal.ReadFault) = GaveAtMost script_limit r × Rose r.before r.now
+IsScriptRead r (Err refusal.TooLong) = GaveOneMore script_limit r × IsSteady r
+IsScriptRead r (Err refusal.OutOfMemory) = GaveAtMost script_limit r × IsSteady r
+IsScriptRead r (Err refusal.Usage) = ⊥
+IsScriptRead r (Err (refusal.Script line col c)) = ⊥
+
+-- ---- how it ends, and its line
+
+abbrev pub end_of : Refusal → End
+end_of refusal.Usage = end.Usage
+end_of (refusal.Script line col c) = end.Script line col c
+end_of refusal.ReadFault = end.ReadFault
+end_of refusal.OutOfMemory = end.OutOfMemory
+end_of refusal.TooLong = end.TooLong
+
+-- the end of the refusal, or of want of memory for its line, or of the sink's failure
+abbrev pub EndsAs : Refusal → End → Type 0
+EndsAs x e = (e ≡ end_of x) ⊎ (e ≡ end.OutOfMemory) ⊎ (e ≡ end.WriteFault)
+
+-- a text with a line feed behind it
+abbrev pub line_feed : ℕ
+line_feed = 10
+
+abbrev pub with_feed : List ℕ → List ℕ
+with_feed text = text ++ line_feed ∷ []
+
+-- `script`, the place and the code of a script's fault
+abbrev pub script_line : ℕ → ℕ → Code → List ℕ
+script_line line col c = with_feed (codes "script " ++ decimal line ++ codes ":" ++ decimal col ++ codes " " ++ word_of c)
+
+abbrev pub line_of : Refusal → List ℕ
+line_of refusal.Usage = with_feed (codes "usage")
+line_of (refusal.Script line col c) = script_line line col c
+line_of refusal.ReadFault = with_feed (codes "read")
+line_of refusal.OutOfMemory = with_feed (codes "memory")
+line_of refusal.TooLong = with_feed (codes "long")
+
+-- ---- scripts
+
+-- a refusal of a script's bytes: a fault that they have, or want of memory
+abbrev pub IsRefusalOf : List ℕ → Refusal → Type 0
+IsRefusalOf bytes (refusal.Script line col c) = HasFault bytes (record { line = line; col = col; code = c })
+IsRefusalOf bytes refusal.OutOfMemory = Unit {0}
+IsRefusalOf bytes refusal.Usage = ⊥
+IsRefusalOf bytes refusal.ReadFault = ⊥
+IsRefusalOf bytes refusal.TooLong = ⊥
+
+-- the refusal for bytes that stand for no network
+abbrev pub refusal_of : NoNetwork → Refusal
+refusal_of (none.Script fault) = refusal.Script fault.line fault.col fault.code
+refusal_of none.OutOfMemory = refusal.OutOfMemory
+
+-- ---- completeness
+
+-- the source tells the bytes that it will give, which are no more than its limit
+abbrev pub IsToldWithin : Option (List ℕ) → List ℕ → Type 0
+IsToldWithin left bytes = (left ≡ Some bytes) × (length bytes ≤ script_limit)
+
+-- the words ask for a command that reads a script, and the source tells one within its limit
+abbrev pub IsAsked : List (List ℕ) → Option (List ℕ) → List ℕ → Type 0
+IsAsked words left bytes = IsReading words × IsToldWithin left bytes
+
+-- the ends that may come for words and a script that are right: those of the command, want of memory, and faults of the
+-- source or the sink
+abbrev pub DoneOrFailed : End → Type 0
+DoneOrFailed end.Spent = Unit {0}
+DoneOrFailed end.Quiescent = Unit {0}
+DoneOrFailed end.Done = Unit {0}
+DoneOrFailed end.OutOfMemory = Unit {0}
+DoneOrFailed end.ReadFault = Unit {0}
+DoneOrFailed end.WriteFault = Unit {0}
+DoneOrFailed end.Usage = ⊥
+DoneOrFailed end.TooLong = ⊥
+DoneOrFailed (end.Script line col c) = ⊥
+
+-- the ends that may come for words that are right and a script that has no meaning yet: Unbuilt at its first byte, want of
+-- memory, and faults of the source or the sink
+abbrev pub UnbuiltOrFailed : End → Type 0
+UnbuiltOrFailed (end.Script line col c) = (line ≡ 1) × (col ≡ 1) × (c ≡ code.Unbuilt)
+UnbuiltOrFailed end.OutOfMemory = Unit {0}
+UnbuiltOrFailed end.ReadFault = Unit {0}
+UnbuiltOrFailed end.WriteFault = Unit {0}
+UnbuiltOrFailed end.Spent = ⊥
+UnbuiltOrFailed end.Quiescent = ⊥
+UnbuiltOrFailed end.Done = ⊥
+UnbuiltOrFailed end.Usage = ⊥
+UnbuiltOrFailed end.TooLong = ⊥
+
+-- a refusal that ends the call so
+abbrev pub RefusedBy : {X : Type 0} → Result X Refusal → (End → Type 0) → Type 0
+RefusedBy (Ok x) P = ⊥
+RefusedBy (Err r) P = P (end_of r)
+
+-- what was answered, or the end of the refusal, is as stated
+abbrev pub UnlessRefused : {X : Type 0} → Result X Refusal → (End → Type 0) → Type 0
+UnlessRefused (Ok x) P = Unit {0}
+UnlessRefused (Err r) P = P (end_of r)
