@@ -1,5 +1,5 @@
 -- Sources and sinks in memory: what each call answers and leaves.
-use Rattle.std.specs.Prelude.{◌≡◌, ℕ, ◌+◌, ◌-◌, ◌^◌, min, List, [], ◌++◌, length, take, drop, Contains}
+use Rattle.std.specs.Prelude.{◌≡◌, ℕ, ◌+◌, ◌-◌, ◌^◌, ◌<◌, ◌⊎◌, min, List, [], ◌++◌, length, take, drop, Contains}
 use Rattle.cv_io.specs.Faults.{next_count}
 use Rattle.cv_io.specs.declared.source.Got.{Got}
 use Rattle.cv_io.specs.declared.source.Got.TheVariants as got
@@ -17,10 +17,16 @@ pub record Memory : Type 0 where
   -- the number of the last call, and 0 before the first
   pub calls : ℕ
   pub faults : ℕ
+  -- for how many bytes a sink has taken memory; a source needs none
+  pub room : ℕ
 
 -- before the first call
 abbrev pub opened : List ℕ → ℕ → List ℕ → Memory
-opened bytes per fail_at = record { bytes = bytes; per = per; fail_at = fail_at; calls = 0; faults = 0 }
+opened bytes per fail_at = record { bytes = bytes; per = per; fail_at = fail_at; calls = 0; faults = 0; room = 0 }
+
+-- a sink before its first call, with whatever room
+abbrev pub IsOpened : List ℕ → ℕ → List ℕ → Memory → Type 0
+IsOpened bytes per fail_at m = m ≡ record (opened bytes per fail_at) { room = m.room }
 
 -- the number of the next call; each call past 2 ^ 32 - 1 bears that number
 abbrev pub next_call : Memory → ℕ
@@ -44,7 +50,11 @@ ReadsMemory old new room (got.Bytes n) = (¬ FailsNext old) × (n ≡ min (min o
 ReadsMemory old new room got.End = (¬ FailsNext old) × (old.bytes ≡ []) × (new ≡ after_call old [])
 ReadsMemory old new room got.Failed = FailsNext old × (new ≡ after_fault old)
 
--- a write takes all that it may, and fails where it is listed, or where memory is refused
+-- the room does not hold the bytes of the next call beside those written
+abbrev pub LacksRoom : Memory → List ℕ → Type 0
+LacksRoom m piece = m.room < length m.bytes + min m.per (length piece)
+
+-- a write takes all that it may, and fails just where it is listed, or where room lacks and memory is refused
 abbrev pub WritesMemory : Memory → Memory → List ℕ → Took → Type 0
-WritesMemory old new piece (took.Bytes n) = (¬ FailsNext old) × (n ≡ min old.per (length piece)) × (new ≡ after_call old (old.bytes ++ take n piece))
-WritesMemory old new piece took.Failed = new ≡ after_fault old
+WritesMemory old new piece (took.Bytes n) = (¬ FailsNext old) × (n ≡ min old.per (length piece)) × (new ≡ record (after_call old (old.bytes ++ take n piece)) { room = new.room })
+WritesMemory old new piece took.Failed = (FailsNext old ⊎ LacksRoom old piece) × (new ≡ record (after_fault old) { room = new.room })

@@ -3,6 +3,7 @@ use Rattle.std.specs.Prelude.{◌≡◌, ℕ, ◌+◌, ◌<◌, ◌≤◌, List,
 use Rattle.std.specs.declared.option.Option.{Option}
 use Rattle.std.specs.declared.alloc.Global.{Global}
 use Rattle.std.specs.Io.KnownBytes.{Appends, Consumes, IsAtEnd}
+use Rattle.cv_io.specs.Faults.{Rose}
 use Rattle.cv_io.specs.declared.transfer.ReadAll.{ReadAll}
 use Rattle.cv_io.specs.declared.transfer.ReadAll.TheVariants.{ReadFault, TooLong, OutOfMemory}
 
@@ -16,6 +17,13 @@ ReadsAll limit old new (Ok bytes) = Consumes old new bytes.items × (length byte
 ReadsAll limit old new (Err TooLong) = GaveSome old new (λ n. n ≡ limit + 1)
 ReadsAll limit old new (Err ReadFault) = GaveSome old new (λ n. n ≤ limit)
 ReadsAll limit old new (Err OutOfMemory) = GaveSome old new (λ n. n ≤ limit)
+
+-- a source that failed is told as such: its count rose at ReadFault, and at no other answer did it change
+abbrev pub ReadsCount : ℕ → ℕ → Result (Vec ℕ Global) ReadAll → Type 0
+ReadsCount before now (Ok bytes) = now ≡ before
+ReadsCount before now (Err ReadFault) = Rose before now
+ReadsCount before now (Err TooLong) = now ≡ before
+ReadsCount before now (Err OutOfMemory) = now ≡ before
 
 -- a part of the text from the front was written, and not the whole
 abbrev pub AppendsFront : Option (List ℕ) → Option (List ℕ) → List ℕ → Type 0

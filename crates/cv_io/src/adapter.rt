@@ -2,8 +2,7 @@
 
 ghost use Rattle.std.specs.Prelude.{◌≡◌, ◌<◌, ◌≤◌, length};
 ghost use Rattle.cv_io.specs.Adapter.{reader_of, failed_reads, writer_of, failed_writes, CountsRead, CountsWrite};
-ghost use Rattle.cv_io.specs.Bytes.{Gives, Takes};
-ghost use Rattle.cv_io.specs.Faults.{Rose};
+ghost use Rattle.cv_io.specs.Bytes.{Gives, Takes, CountsReads, CountsWrites};
 
 use crate::sink::{Sink, Took};
 use crate::source::{Got, Source};
@@ -35,8 +34,8 @@ impl<R: Read> Source for StdSource<R> {
         requires { 0 < length buf.old }
         ensures later { failed_reads self.old ≤ failed_reads self.new }
         ensures bytes { Gives (R.remaining (reader_of self.old)) (R.remaining (reader_of self.new)) buf.new result }
-        ensures cause { result ≡ Got.Failed → Rose (failed_reads self.old) (failed_reads self.new) }
-        ensures count { CountsRead (failed_reads self.old) (failed_reads self.new) result }
+        ensures count { CountsReads (failed_reads self.old) (failed_reads self.new) result }
+        ensures once { CountsRead (failed_reads self.old) (failed_reads self.new) result }
     {
         match self.inner.read(buf) {
             Ok(0) => Got::End,
@@ -76,8 +75,8 @@ impl<W: Write> Sink for StdSink<W> {
         requires { 0 < length piece.now }
         ensures later { failed_writes self.old ≤ failed_writes self.new }
         ensures bytes { Takes (W.contents (writer_of self.old)) (W.contents (writer_of self.new)) piece.now result }
-        ensures cause { result ≡ Took.Failed → Rose (failed_writes self.old) (failed_writes self.new) }
-        ensures count { CountsWrite (failed_writes self.old) (failed_writes self.new) result }
+        ensures count { CountsWrites (failed_writes self.old) (failed_writes self.new) result }
+        ensures once { CountsWrite (failed_writes self.old) (failed_writes self.new) result }
     {
         match self.inner.write(piece) {
             Ok(0) | Err(_) => {

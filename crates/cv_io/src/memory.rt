@@ -1,9 +1,8 @@
 //! A source and a sink in memory, which give and take bytes in small pieces and fail at stated calls.
 
 ghost use Rattle.std.specs.Prelude.{◌≡◌, ◌<◌, ◌≤◌, [], Some, length, min, take};
-ghost use Rattle.cv_io.specs.Faults.{Rose};
-ghost use Rattle.cv_io.specs.Bytes.{Gives, Takes};
-ghost use Rattle.cv_io.specs.Memory.{ReadsMemory, WritesMemory, opened};
+ghost use Rattle.cv_io.specs.Bytes.{Gives, Takes, CountsReads, CountsWrites};
+ghost use Rattle.cv_io.specs.Memory.{ReadsMemory, WritesMemory, opened, IsOpened};
 
 use crate::sink::{Sink, Took};
 use crate::source::{Got, Source};
@@ -33,6 +32,7 @@ impl Model for MemSource {
       fail_at = s.fail_at.items;
       calls = s.calls;
       faults = s.faults;
+      room = 0;
     } };
 
     ghost invariant = { λ s. (s.at ≤ length s.bytes.items) × (0 < s.per) };
@@ -64,7 +64,7 @@ impl Source for MemSource {
         requires { 0 < length buf.old }
         ensures later { self.old.faults ≤ self.new.faults }
         ensures bytes { Gives (Some self.old.bytes) (Some self.new.bytes) buf.new result }
-        ensures cause { result ≡ Got.Failed → Rose self.old.faults self.new.faults }
+        ensures count { CountsReads self.old.faults self.new.faults result }
         ensures call { ReadsMemory self.old self.new (length buf.old) result }
     {
         self.calls = self.calls.saturating_add(1);
@@ -92,8 +92,8 @@ fn copy_front(rest: &[u8], buf: &mut [u8], per: usize) -> usize
     count
 }
 
-/// A sink in memory. It takes at most `per` bytes a call, and fails at the calls whose numbers are listed and where
-/// memory is refused to it.
+/// A sink in memory. It takes at most `per` bytes a call, and fails at the calls whose numbers are listed and where it
+/// lacks room and memory is refused to it.
 #[derive(Drop)]
 pub struct MemSink {
     bytes: Vec<u8>,
@@ -104,7 +104,7 @@ pub struct MemSink {
 }
 
 impl Model for MemSink {
-    ghost use Rattle.std.specs.Prelude.{◌<◌};
+    ghost use Rattle.std.specs.Prelude.{◌<◌, vec_capacity};
     ghost use Rattle.cv_io.specs.Memory.{Memory};
 
     ghost Value = { Memory };
@@ -115,6 +115,7 @@ impl Model for MemSink {
       fail_at = s.fail_at.items;
       calls = s.calls;
       faults = s.faults;
+      room = vec_capacity s.bytes;
     } };
 
     ghost invariant = { λ s. 0 < s.per };
@@ -124,7 +125,7 @@ impl MemSink {
     /// A sink that holds nothing yet. Calls are counted from 1; each call past 2^32 - 1 bears that number.
     pub fn new(alloc: Global, per: usize, fail_at: Vec<u32>) -> MemSink
         requires { 0 < per }
-        ensures { result ≡ opened [] per fail_at.items }
+        ensures { IsOpened [] per fail_at.items result }
     {
         MemSink {
             bytes: Vec::new(alloc),
@@ -152,14 +153,16 @@ impl Sink for MemSink {
         requires { 0 < length piece.now }
         ensures later { self.old.faults ≤ self.new.faults }
         ensures bytes { Takes (Some self.old.bytes) (Some self.new.bytes) piece.now result }
-        ensures cause { result ≡ Took.Failed → Rose self.old.faults self.new.faults }
+        ensures count { CountsWrites self.old.faults self.new.faults result }
         ensures call { WritesMemory self.old self.new piece.now result }
     {
         self.calls = self.calls.saturating_add(1);
         let count = self.per.min(piece.len());
-        if self.fail_at.contains(&self.calls)
-            || self.bytes.extend_from_slice(&piece[..count]).is_err()
-        {
+        if self.fail_at.contains(&self.calls) {
+            self.faults = self.faults.saturating_add(1);
+            return Took::Failed;
+        }
+        if self.bytes.extend_from_slice(&piece[..count]).is_err() {
             self.faults = self.faults.saturating_add(1);
             return Took::Failed;
         }

@@ -2,7 +2,6 @@
 
 ghost use Rattle.std.specs.Prelude.{◌≡◌, ◌<◌, ◌≤◌, ℕ, List, length};
 ghost use Rattle.std.specs.declared.option.Option.{Option};
-ghost use Rattle.cv_io.specs.Faults.{Rose};
 
 /// What one call of `Sink::write` answers.
 #[derive(Clone, Copy, Debug, PartialEq, Eq)]
@@ -15,12 +14,12 @@ pub enum Took {
 
 /// What takes bytes, in pieces of any size.
 pub trait Sink {
-    ghost use Rattle.cv_io.specs.Bytes.{Takes};
+    ghost use Rattle.cv_io.specs.Bytes.{Takes, CountsWrites};
 
     /// The bytes written so far, or None where the sink doesn't tell.
     ghost written: { Self → Option (List ℕ) };
 
-    /// How often the sink has failed. The count never falls.
+    /// How often the sink has failed. A call that fails raises the count, and no other call changes it.
     ghost faults: { Self → ℕ };
 
     /// Takes some bytes at the front of the piece. After `Failed` the same bytes are written.
@@ -28,5 +27,5 @@ pub trait Sink {
         requires { 0 < length piece.now }
         ensures later { faults self.old ≤ faults self.new }
         ensures bytes { Takes (written self.old) (written self.new) piece.now result }
-        ensures cause { result ≡ Took.Failed → Rose (faults self.old) (faults self.new) };
+        ensures count { CountsWrites (faults self.old) (faults self.new) result };
 }

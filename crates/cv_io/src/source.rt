@@ -2,7 +2,6 @@
 
 ghost use Rattle.std.specs.Prelude.{◌≡◌, ◌<◌, ◌≤◌, ℕ, List, length};
 ghost use Rattle.std.specs.declared.option.Option.{Option};
-ghost use Rattle.cv_io.specs.Faults.{Rose};
 
 /// What one call of `Source::read` answers.
 #[derive(Clone, Copy, Debug, PartialEq, Eq)]
@@ -17,12 +16,12 @@ pub enum Got {
 
 /// What gives bytes, in pieces of any size.
 pub trait Source {
-    ghost use Rattle.cv_io.specs.Bytes.{Gives};
+    ghost use Rattle.cv_io.specs.Bytes.{Gives, CountsReads};
 
     /// The bytes still to come, or None where the source doesn't tell.
     ghost left: { Self → Option (List ℕ) };
 
-    /// How often the source has failed. The count never falls.
+    /// How often the source has failed. A call that fails raises the count, and no other call changes it.
     ghost faults: { Self → ℕ };
 
     /// Gives some of the next bytes, or tells that there are none. After `Failed` the same bytes are left.
@@ -30,5 +29,5 @@ pub trait Source {
         requires { 0 < length buf.old }
         ensures later { faults self.old ≤ faults self.new }
         ensures bytes { Gives (left self.old) (left self.new) buf.new result }
-        ensures cause { result ≡ Got.Failed → Rose (faults self.old) (faults self.new) };
+        ensures count { CountsReads (faults self.old) (faults self.new) result };
 }

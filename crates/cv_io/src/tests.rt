@@ -1,9 +1,11 @@
 //! What no clause says: calls on small devices one after another, and that calls succeed where memory is ample.
 
+ghost use Rattle.std.specs.Prelude.{◌≤◌, IfOk};
+
 use super::*;
 use std::alloc::{AllocError, Global};
 use std::io;
-use std::io::Read;
+use std::io::{Read, Write};
 use std::test::Fail;
 
 const MIB: usize = 1 << 20;
@@ -17,14 +19,65 @@ fn sample(alloc: Global, length: usize) -> Result<Vec<u8>, AllocError> {
     Ok(bytes)
 }
 
-/// A reader that fails at each call.
+/// A reader and writer that counts its calls, fails at one of them, and at each other call gives or takes one byte.
 #[derive(Drop)]
-struct Broken;
+struct Flaky {
+    calls: u32,
+    fail_at: u32,
+}
 
-impl Read for Broken {
-    fn read(&mut self, _buf: &mut [u8]) -> io::Result<usize> {
-        Err(io::Error::from(io::ErrorKind::BrokenPipe))
+impl Flaky {
+    fn call(&mut self, room: usize) -> io::Result<usize>
+        ensures { IfOk result (λ count. count ≤ room) }
+    {
+        self.calls = self.calls.saturating_add(1);
+        if self.calls == self.fail_at {
+            return Err(io::Error::from(io::ErrorKind::BrokenPipe));
+        }
+        Ok(room.min(1))
     }
+}
+
+impl Read for Flaky {
+    fn read(&mut self, buf: &mut [u8]) -> io::Result<usize> {
+        self.call(buf.len())
+    }
+}
+
+impl Write for Flaky {
+    fn write(&mut self, piece: &[u8]) -> io::Result<usize> {
+        self.call(piece.len())
+    }
+
+    fn flush(&mut self) -> io::Result<()> {
+        Ok(())
+    }
+}
+
+#[test]
+fn an_adapter_calls_what_it_stands_on_once_a_call(rt: HostRuntime) {
+    let mut reader = Flaky {
+        calls: 0,
+        fail_at: 2,
+    };
+    let mut source = StdSource::new(&mut reader);
+    let mut buf = [0u8; 4];
+    for answer in [Got::Bytes(1), Got::Failed, Got::Bytes(1)] {
+        assert_eq!(rt; source.read(&mut buf), answer);
+    }
+    drop(source);
+    assert_eq!(rt; reader.calls, 3);
+
+    let mut writer = Flaky {
+        calls: 0,
+        fail_at: 2,
+    };
+    let mut sink = StdSink::new(&mut writer);
+    for answer in [Took::Bytes(1), Took::Failed, Took::Bytes(1)] {
+        assert_eq!(rt; sink.write(&[7, 8]), answer);
+    }
+    drop(sink);
+    assert_eq!(rt; writer.calls, 3);
 }
 
 #[test]
@@ -146,7 +199,11 @@ fn readers_and_writers_of_std_are_sources_and_sinks(rt: HostRuntime) -> Result<(
     let text = sample(alloc, 9000)?;
     let read = read_all(alloc, &mut StdSource::new(text.as_slice()), 9000)?;
     assert!(rt; read == text);
-    let refused = read_all(alloc, &mut StdSource::new(Broken), 9000);
+    let broken = Flaky {
+        calls: 0,
+        fail_at: 1,
+    };
+    let refused = read_all(alloc, &mut StdSource::new(broken), 9000);
     assert_eq!(rt; refused.err(), Some(ReadAll::ReadFault));
 
     let mut copy = Vec::new(alloc);

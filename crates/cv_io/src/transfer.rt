@@ -1,9 +1,9 @@
 //! Whole texts: reading a source to its end, and writing all of a text.
 
-ghost use Rattle.std.specs.Prelude.{◌≡◌, ◌<◌, ◌≤◌, ℕ, length, take, IsErrOf, OnOk, OnErr};
+ghost use Rattle.std.specs.Prelude.{◌≡◌, ◌<◌, ◌≤◌, ℕ, length, take, OnOk, OnErr};
 ghost use Rattle.std.specs.Io.KnownBytes.{Appends};
 ghost use Rattle.cv_io.specs.Faults.{Rose};
-ghost use Rattle.cv_io.specs.Whole.{ReadsAll, AppendsFront};
+ghost use Rattle.cv_io.specs.Whole.{ReadsAll, ReadsCount, AppendsFront};
 ghost use Rattle.cv_io.specs.declared.transfer.ReadAll.TheVariants.{OutOfMemory};
 
 use crate::sink::{Sink, Took};
@@ -41,7 +41,7 @@ pub struct WriteFault;
 pub fn read_all<S: Source>(alloc: Global, source: &mut S, limit: usize) -> Result<Vec<u8>, ReadAll>
     ensures later { S.faults source.old ≤ S.faults source.new }
     ensures bytes { ReadsAll limit (S.left source.old) (S.left source.new) result }
-    ensures cause { IsErrOf result ReadAll.ReadFault → Rose (S.faults source.old) (S.faults source.new) }
+    ensures count { ReadsCount (S.faults source.old) (S.faults source.new) result }
 {
     let mut bytes = Vec::new(alloc);
     let mut step = [0u8; STEP];
@@ -66,6 +66,7 @@ pub fn write_all<K: Sink>(sink: &mut K, text: &[u8]) -> Result<(), WriteFault>
     ensures ok { OnOk result (Appends (K.written sink.old) (K.written sink.new) text.now) }
     ensures prefix { OnErr result (AppendsFront (K.written sink.old) (K.written sink.new) text.now) }
     ensures cause { OnErr result (Rose (K.faults sink.old) (K.faults sink.new)) }
+    ensures steady { OnOk result (K.faults sink.new ≡ K.faults sink.old) }
 {
     let mut at = 0;
     while at < text.len() {

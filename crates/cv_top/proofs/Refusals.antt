@@ -1,16 +1,48 @@
--- The end of each refusal, and its cause.
-use Rattle.std.proofs.Common.{◌≡◌, inl, inr, ℕ, List, ◌++◌, Some, None, Result, Ok, Err, IfErr, ap, ◌∙◌, sym, subst, append-nil}
+-- What is told of an answer, and what a refusal says of the words and the source.
+use Rattle.std.proofs.Common.{◌≡◌, inl, inr, ℕ, ◌≤◌, List, ◌++◌, Some, None, Result, Ok, Err, IfOk, IfErr, length, refl, ap, ◌∙◌, sym, subst, append-nil}
 use Rattle.std.specs.declared.option.Option.{Option}
 use Rattle.std.specs.Io.KnownBytes.{Consumes, IsAtEnd}
+use Rattle.cv_deploy.specs.declared.fault.Code.{Code}
 use Rattle.cv_deploy.specs.declared.fault.NoNetwork.{NoNetwork}
 use Rattle.cv_deploy.specs.declared.fault.NoNetwork.TheVariants as none
 use Rattle.cv_deploy.specs.Faults.{Gives}
+use Rattle.cv_node.specs.declared.event.Record.{Record}
+use Rattle.cv_top.specs.declared.end.Answer.{Answer}
 use Rattle.cv_top.specs.declared.end.End.{End}
 use Rattle.cv_top.specs.declared.end.End.TheVariants as end
 use Rattle.cv_top.specs.declared.end.Refusal.{Refusal}
 use Rattle.cv_top.specs.declared.end.Refusal.TheVariants as refusal
-use Rattle.cv_top.specs.Causes.{HasCause, IsRefused, IsRefusalOf, IsFailure, RanOrFailed, UnbuiltOrFailed, refused}
-use Rattle.cv_top.specs.Ends.{EndsAs, end_of}
+use Rattle.cv_top.specs.Answers.{IsSuccess, IsRunAnswer, IsRunDecided, IsTold, IsAnswered}
+use Rattle.cv_top.specs.Causes.{IsCause, EndsAs, IsRefusalOf, DoneOrFailed, UnbuiltOrFailed, refusal_of, end_of, line_of, script_limit}
+use Rattle.cv_top.specs.Devices.{Reading, Writing, Gave}
+use Rattle.cv_top.specs.Ran.{IsEmptyRecord}
+
+-- a success whose text was told
+pub success_told : (words : List (List ℕ)) (r : Reading) (w : Writing) (stated e : End) (merged m : Record) (text : List ℕ)
+    → IsSuccess words r stated merged text → IsTold w stated merged text e m → IsAnswered words r w e m
+success_told words r w stated e merged m text is told = record { stated = stated; merged = merged; text = text; answer = inl is; told = told }
+
+-- a refusal whose line was told
+pub refusal_told : (words : List (List ℕ)) (r : Reading) (w : Writing) (x : Refusal) (e : End) (merged m : Record)
+    → IsCause words r x → IsEmptyRecord merged → IsTold w (end_of x) merged (line_of x) e m → IsAnswered words r w e m
+refusal_told words r w x e merged m cause empty told =
+    record { stated = end_of x; merged = merged; text = line_of x; answer = inr (record { refusal = x; cause = cause; ends = refl; line = refl; empty = empty }); told = told }
+
+-- where the line of a script's fault wants memory, want of memory has its cause
+pub memory_cause : (words : List (List ℕ)) (r : Reading) (line col : ℕ) (c : Code) → IsCause words r (refusal.Script line col c) → IsCause words r refusal.OutOfMemory
+memory_cause words r line col c (reading, (bytes, gave, short, has)) = ((reading.0, reading.1), (bytes, gave.given, short), gave.steady)
+
+-- where each end of a refusal that may come has a property, the end that came has it
+by_end : (P : End → Type 0) (x : Refusal) (e : End) → P (end_of x) → P end.OutOfMemory → P end.WriteFault → EndsAs x e → P e
+by_end P x e own memory write (inl is) = subst P (sym is) own
+by_end P x e own memory write (inr (inl is)) = subst P (sym is) memory
+by_end P x e own memory write (inr (inr is)) = subst P (sym is) write
+
+pub done_or_failed : (x : Refusal) (e : End) → DoneOrFailed (end_of x) → EndsAs x e → DoneOrFailed e
+done_or_failed x e is ends = by_end DoneOrFailed x e is tt tt ends
+
+pub unbuilt_or_failed : (x : Refusal) (e : End) → UnbuiltOrFailed (end_of x) → EndsAs x e → UnbuiltOrFailed e
+unbuilt_or_failed x e is ends = by_end UnbuiltOrFailed x e is tt tt ends
 
 -- a source that tells what it will give gave just that, where nothing is left
 pub read_whole : (left rest : Option (List ℕ)) (read bytes : List ℕ) → left ≡ Some bytes → Consumes left rest read → IsAtEnd rest → bytes ≡ read
@@ -18,56 +50,16 @@ read_whole None rest read bytes told given ended = cc
 read_whole (Some xs) None read bytes told given ended = absurd given
 read_whole (Some xs) (Some ys) read bytes told given ended = let same : xs ≡ bytes = cc in sym same ∙ given ∙ ap (λ zs. read ++ zs) ended ∙ append-nil read
 
--- what the bytes are refused for is what the call is refused for
-refused_by : (left rest : Option (List ℕ)) (bytes : List ℕ) (r : Refusal) → Consumes left rest bytes → IsAtEnd rest → IsRefusalOf bytes r → IsRefused left rest r
-refused_by left rest bytes (refusal.Script number col c) given ended has = (bytes, (given, ended), has)
-refused_by left rest bytes refusal.OutOfMemory given ended has = tt
-refused_by left rest bytes refusal.Usage given ended has = tt
-refused_by left rest bytes refusal.ReadFault given ended has = tt
-refused_by left rest bytes refusal.TooLong given ended has = tt
-
-pub all_refused : {X : Type 0} → (left rest : Option (List ℕ)) (bytes : List ℕ) (r : Result X Refusal) → Consumes left rest bytes → IsAtEnd rest → IfErr r (IsRefusalOf bytes) → IfErr r (IsRefused left rest)
-all_refused left rest bytes (Ok x) given ended has = tt
-all_refused left rest bytes (Err r) given ended has = refused_by left rest bytes r given ended has
-
--- where each end of a refusal that may come has a property, the end that came has it
-by_end : (P : End → Type 0) (r : Refusal) (e : End) → P (end_of r) → P end.OutOfMemory → P end.WriteFault → EndsAs r e → P e
-by_end P (refusal.Script number col c) e own memory write (inl is) = subst P (sym is) own
-by_end P (refusal.Script number col c) e own memory write (inr (inl is)) = subst P (sym is) memory
-by_end P (refusal.Script number col c) e own memory write (inr (inr is)) = subst P (sym is) write
-by_end P refusal.Usage e own memory write (inl is) = subst P (sym is) own
-by_end P refusal.Usage e own memory write (inr is) = subst P (sym is) write
-by_end P refusal.ReadFault e own memory write (inl is) = subst P (sym is) own
-by_end P refusal.ReadFault e own memory write (inr is) = subst P (sym is) write
-by_end P refusal.OutOfMemory e own memory write (inl is) = subst P (sym is) own
-by_end P refusal.OutOfMemory e own memory write (inr is) = subst P (sym is) write
-by_end P refusal.TooLong e own memory write (inl is) = subst P (sym is) own
-by_end P refusal.TooLong e own memory write (inr is) = subst P (sym is) write
-
-own_cause : (left rest : Option (List ℕ)) (r : Refusal) → IsRefused left rest r → HasCause left rest (end_of r)
-own_cause left rest (refusal.Script number col c) has = has
-own_cause left rest refusal.Usage has = tt
-own_cause left rest refusal.ReadFault has = tt
-own_cause left rest refusal.OutOfMemory has = tt
-own_cause left rest refusal.TooLong has = tt
-
-pub cause_of : (left rest : Option (List ℕ)) (r : Refusal) (e : End) → IsRefused left rest r → EndsAs r e → HasCause left rest e
-cause_of left rest r e has ends = by_end (HasCause left rest) r e (own_cause left rest r has) tt tt ends
-
-own_failure : (r : Refusal) → IsFailure r → RanOrFailed (end_of r)
-own_failure refusal.ReadFault is = tt
-own_failure refusal.OutOfMemory is = tt
-own_failure refusal.Usage is = absurd is
-own_failure refusal.TooLong is = absurd is
-own_failure (refusal.Script number col c) is = absurd is
-
-pub failed : (r : Refusal) (e : End) → IsFailure r → EndsAs r e → RanOrFailed e
-failed r e is ends = by_end RanOrFailed r e (own_failure r is) tt tt ends
-
-pub unbuilt : (r : Refusal) (e : End) → UnbuiltOrFailed (end_of r) → EndsAs r e → UnbuiltOrFailed e
-unbuilt r e is ends = by_end UnbuiltOrFailed r e is tt tt ends
-
 -- bytes that mean something are refused by want of memory alone
-pub memory_alone : {X : Type 0} → (e : NoNetwork) (x : X) → Gives {X = X} (Err e) x → IsFailure (refused e)
+pub memory_alone : {X : Type 0} → (e : NoNetwork) (x : X) → Gives {X = X} (Err e) x → DoneOrFailed (end_of (refusal_of e))
 memory_alone (none.Script fault) x is = absurd is
 memory_alone none.OutOfMemory x is = tt
+
+-- a script that was read and run, or refused
+pub run_decided : (most : ℕ) (r : Reading) (bytes : List ℕ) (x : Result Answer Refusal) → Gave r bytes → length bytes ≤ script_limit → IfOk x (IsRunAnswer bytes most) → IfErr x (IsRefusalOf bytes) → IsRunDecided most r x
+run_decided most r bytes (Ok answer) gave short ran refused = (bytes, gave, ran)
+run_decided most r bytes (Err (refusal.Script line col c)) gave short ran refused = (bytes, gave, short, refused)
+run_decided most r bytes (Err refusal.OutOfMemory) gave short ran refused = ((bytes, gave.given, short), gave.steady)
+run_decided most r bytes (Err refusal.Usage) gave short ran refused = absurd refused
+run_decided most r bytes (Err refusal.ReadFault) gave short ran refused = absurd refused
+run_decided most r bytes (Err refusal.TooLong) gave short ran refused = absurd refused

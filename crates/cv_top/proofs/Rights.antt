@@ -1,7 +1,5 @@
 -- A record of one node of a wired network keeps its streams, and the text is that of its firings.
-use Rattle.std.proofs.Common.{◌≡◌, ℕ, List, [], ◌∷◌, ◌++◌, map, take, codes, Some, refl, ap, sym, ◌∙◌, subst, append-nil}
-use Rattle.std.specs.declared.option.Option.{Option}
-use Rattle.std.specs.Io.KnownBytes.{Consumes, IsAtEnd}
+use Rattle.std.proofs.Common.{◌≡◌, ℕ, List, [], ◌∷◌, ◌++◌, map, take, codes, Some, refl, ap, sym, ◌∙◌, subst, append-nil, string_bytes}
 use Rattle.cv_kinds.specs.Net.{Net}
 use Rattle.cv_kinds.specs.Wired.{IsWired}
 use Rattle.cv_node.specs.declared.event.Entry.{Entry}
@@ -13,11 +11,13 @@ use Rattle.cv_node.specs.Recorded.{step_of, first_entry, IsOneNodeRun}
 use Rattle.cv_merge.specs.Streams.{firing_of, firings, deploys, StreamsInOrder}
 use Rattle.cv_merge.proofs.Runs.{every_run}
 use Rattle.cv_solo.specs.OneRuntime.{solo}
-use Rattle.cv_top.specs.declared.end.End.{End}
-use Rattle.cv_top.specs.declared.end.End.TheVariants as end
+use Rattle.cv_top.specs.declared.end.Answer.{Answer}
+use Rattle.cv_top.specs.declared.words.Command.TheVariants.{Run}
+use Rattle.cv_top.specs.Answers.{IsSuccess, IsRunAnswer}
+use Rattle.cv_top.specs.Devices.{Reading, Gave}
 use Rattle.cv_top.specs.Printed.{firings_of, IsTextWhereDefined}
-use Rattle.cv_top.specs.Ran.{IsRightRun, IsRunOfScript, RunFrom, Finished, Ran}
-use Rattle.cv_top.specs.Words.{run_words}
+use Rattle.cv_top.specs.Ran.{IsRightRun}
+use Rattle.cv_top.specs.Words.{command_of}
 
 -- the firings of the steps are those of the entries
 firings_recorded : (entries : List Entry) → firings_of (map step_of entries) ≡ firings entries
@@ -46,15 +46,10 @@ right_run net most s m text wired run printed =
       printed = printed whole.1 defined;
     }
 
-pub run_of_words : (words : List (List ℕ)) (left rest : Option (List ℕ)) (bytes : List ℕ) (most : ℕ) (s : Stop) (m : Record) (text : List ℕ)
-    → run_words words ≡ Some most → Consumes left rest bytes → IsAtEnd rest → IsRunOfScript bytes most s m text → RunFrom words left rest s m text
-run_of_words words left rest bytes most s m text asked given ended run = (bytes, (given, ended), record { most = most; asked = asked; run = run })
-
-pub ran_from_finished : (words : List (List ℕ)) (left rest : Option (List ℕ)) (s : Stop) (kept m : Record) (text : List ℕ) (old new : Option (List ℕ)) (e : End)
-    → RunFrom words left rest s kept text → Finished s kept text old new e m → Ran words left rest old new e m
-ran_from_finished words left rest stop.Spent kept m text old new end.Spent run done = (text, subst (λ x. RunFrom words left rest stop.Spent x text) (sym done.0) run, done.1)
-ran_from_finished words left rest stop.Spent kept m text old new end.WriteFault run done = done
-ran_from_finished words left rest stop.Spent kept m text old new e run done = absurd done
-ran_from_finished words left rest stop.Quiescent kept m text old new end.Quiescent run done = (text, subst (λ x. RunFrom words left rest stop.Quiescent x text) (sym done.0) run, done.1)
-ran_from_finished words left rest stop.Quiescent kept m text old new end.WriteFault run done = done
-ran_from_finished words left rest stop.Quiescent kept m text old new e run done = absurd done
+-- a run of the script that the source gave is what the words and the source are answered with
+pub run_success : (words : List (List ℕ)) (r : Reading) (bytes : List ℕ) (most : ℕ) (answer : Answer) → command_of words ≡ Some (Run most) → Gave r bytes → IsRunAnswer bytes most answer
+    → IsSuccess words r answer.end answer.merged (string_bytes answer.text)
+run_success words r bytes most answer asked gave (stop.Spent, ends, run) =
+    subst (λ e. IsSuccess words r e answer.merged (string_bytes answer.text)) (sym ends) (bytes, gave, record { most = most; asked = asked; run = run })
+run_success words r bytes most answer asked gave (stop.Quiescent, ends, run) =
+    subst (λ e. IsSuccess words r e answer.merged (string_bytes answer.text)) (sym ends) (bytes, gave, record { most = most; asked = asked; run = run })

@@ -1,10 +1,9 @@
--- What each end says of the source and the sink.
-use Rattle.std.specs.Prelude.{◌≡◌, ◌⊎◌, ℕ, ◌+◌, ◌≤◌, List, [], ◌∷◌, ◌++◌, length, Some, Result, Ok, Err, codes}
+-- The refusals: what each says of the words and the source, how it ends the call, and its line.
+use Rattle.std.specs.Prelude.{◌≡◌, ◌⊎◌, ℕ, ◌≤◌, ◌^◌, List, [], ◌∷◌, ◌++◌, length, Some, None, Result, Ok, Err, IsTrue, codes, Vec}
 use Rattle.std.specs.declared.option.Option.{Option}
-use Rattle.std.specs.Io.KnownBytes.{Appends, Keeps, Consumes, IsAtEnd}
-use Rattle.cv_io.specs.Faults.{Rose}
-use Rattle.cv_io.specs.Whole.{AppendsFront, GaveSome}
+use Rattle.std.specs.declared.alloc.Global.{Global}
 use Rattle.std.specs.Fmt.{decimal}
+use Rattle.cv_io.specs.Faults.{Rose}
 use Rattle.cv_deploy.specs.declared.fault.Code.{Code}
 use Rattle.cv_deploy.specs.declared.fault.Code.TheVariants as code
 use Rattle.cv_deploy.specs.declared.fault.NoNetwork.{NoNetwork}
@@ -14,122 +13,135 @@ use Rattle.cv_top.specs.declared.end.End.{End}
 use Rattle.cv_top.specs.declared.end.End.TheVariants as end
 use Rattle.cv_top.specs.declared.end.Refusal.{Refusal}
 use Rattle.cv_top.specs.declared.end.Refusal.TheVariants as refusal
-use Rattle.cv_top.specs.Ends.{end_of}
-use Rattle.cv_top.specs.Words.{run_words}
+use Rattle.cv_top.specs.declared.words.Command.{Command}
+use Rattle.cv_top.specs.Devices.{Reading, Gave, GaveAtMost, GaveOneMore, IsSteady, IsUnread}
+use Rattle.cv_top.specs.Words.{command_of, reads_script}
 
--- the source gave exactly one byte more than its limit where the end is TooLong; at each other end but WriteFault, which
--- replaces any, it gave no more than the limit
-abbrev pub TakenFrom : ℕ → Option (List ℕ) → Option (List ℕ) → End → Type 0
-TakenFrom limit old new end.TooLong = GaveSome old new (λ n. n ≡ limit + 1)
-TakenFrom limit old new end.WriteFault = Unit {0}
-TakenFrom limit old new end.Spent = GaveSome old new (λ n. n ≤ limit)
-TakenFrom limit old new end.Quiescent = GaveSome old new (λ n. n ≤ limit)
-TakenFrom limit old new end.Usage = Keeps old new
-TakenFrom limit old new (end.Script line col code) = GaveSome old new (λ n. n ≤ limit)
-TakenFrom limit old new end.ReadFault = GaveSome old new (λ n. n ≤ limit)
-TakenFrom limit old new end.OutOfMemory = GaveSome old new (λ n. n ≤ limit)
+-- a script has at most so many bytes: one mebibyte
+abbrev pub script_limit : ℕ
+script_limit = 2 ^ 20
 
--- a line
-abbrev pub line : List ℕ → List ℕ
-line text = text ++ 10 ∷ []
+-- ---- when each refusal comes
+
+-- the words ask for a command
+abbrev pub IsAsking : List (List ℕ) → Type 0
+IsAsking words = (c : Command) × (command_of words ≡ Some c)
+
+-- the words ask for a command that reads a script
+abbrev pub IsReading : List (List ℕ) → Type 0
+IsReading words = (c : Command) × (command_of words ≡ Some c) × IsTrue (reads_script c)
+
+-- the source gave a script that has this fault at this place
+abbrev pub GaveFault : Reading → ℕ → ℕ → Code → Type 0
+GaveFault r line col c = (bytes : List ℕ) × Gave r bytes × (length bytes ≤ script_limit) × HasFault bytes (record { line = line; col = col; code = c })
+
+-- Usage: the words are not of the form, and nothing was read. Script: the source gave a script with that fault.
+-- ReadFault: the source's count of faults rose. TooLong: the source gave one byte more than the limit. Want of memory may
+-- come in place of any other answer that takes memory, and the source did not fail then.
+abbrev pub IsCause : List (List ℕ) → Reading → Refusal → Type 0
+IsCause words r refusal.Usage = (command_of words ≡ None) × IsUnread r
+IsCause words r (refusal.Script line col c) = IsReading words × GaveFault r line col c
+IsCause words r refusal.ReadFault = IsReading words × GaveAtMost script_limit r × Rose r.before r.now
+IsCause words r refusal.TooLong = IsReading words × GaveOneMore script_limit r × IsSteady r
+IsCause words r refusal.OutOfMemory = IsAsking words × GaveAtMost script_limit r × IsSteady r
+
+-- the source was read to its end within the limit, or why it was not
+abbrev pub IsScriptRead : Reading → Result (Vec ℕ Global) Refusal → Type 0
+IsScriptRead r (Ok bytes) = Gave r bytes.items × (length bytes.items ≤ script_limit)
+IsScriptRead r (Err refusal.ReadFault) = GaveAtMost script_limit r × Rose r.before r.now
+IsScriptRead r (Err refusal.TooLong) = GaveOneMore script_limit r × IsSteady r
+IsScriptRead r (Err refusal.OutOfMemory) = GaveAtMost script_limit r × IsSteady r
+IsScriptRead r (Err refusal.Usage) = ⊥
+IsScriptRead r (Err (refusal.Script line col c)) = ⊥
+
+-- ---- how it ends, and its line
+
+abbrev pub end_of : Refusal → End
+end_of refusal.Usage = end.Usage
+end_of (refusal.Script line col c) = end.Script line col c
+end_of refusal.ReadFault = end.ReadFault
+end_of refusal.OutOfMemory = end.OutOfMemory
+end_of refusal.TooLong = end.TooLong
+
+-- the end of the refusal, or of want of memory for its line, or of the sink's failure
+abbrev pub EndsAs : Refusal → End → Type 0
+EndsAs x e = (e ≡ end_of x) ⊎ (e ≡ end.OutOfMemory) ⊎ (e ≡ end.WriteFault)
+
+-- a text with a line feed behind it
+abbrev pub line_feed : ℕ
+line_feed = 10
+
+abbrev pub with_feed : List ℕ → List ℕ
+with_feed text = text ++ line_feed ∷ []
 
 -- `script`, the place and the code of a script's fault
 abbrev pub script_line : ℕ → ℕ → Code → List ℕ
-script_line number col code = line (codes "script " ++ decimal number ++ 58 ∷ decimal col ++ 32 ∷ word_of code)
+script_line line col c = with_feed (codes "script " ++ decimal line ++ codes ":" ++ decimal col ++ codes " " ++ word_of c)
 
--- the sink got the line of the fault, or, where it failed, the front of a text; what it got of a run is said elsewhere
-abbrev pub WrittenTo : Option (List ℕ) → Option (List ℕ) → End → Type 0
-WrittenTo old new end.Usage = Appends old new (line (codes "usage"))
-WrittenTo old new end.ReadFault = Appends old new (line (codes "read"))
-WrittenTo old new end.OutOfMemory = Appends old new (line (codes "memory"))
-WrittenTo old new end.TooLong = Appends old new (line (codes "long"))
-WrittenTo old new end.WriteFault = (text : List ℕ) × AppendsFront old new text
-WrittenTo old new (end.Script number col code) = Appends old new (script_line number col code)
-WrittenTo old new end.Spent = Unit {0}
-WrittenTo old new end.Quiescent = Unit {0}
+abbrev pub line_of : Refusal → List ℕ
+line_of refusal.Usage = with_feed (codes "usage")
+line_of (refusal.Script line col c) = script_line line col c
+line_of refusal.ReadFault = with_feed (codes "read")
+line_of refusal.OutOfMemory = with_feed (codes "memory")
+line_of refusal.TooLong = with_feed (codes "long")
 
--- after a text was to be written: all of it was, and the call ends as stated; or the sink failed, and a part of it was
-abbrev pub EndsAfter : Option (List ℕ) → Option (List ℕ) → ℕ → ℕ → List ℕ → End → End → Type 0
-EndsAfter old new before now text stated e = ((e ≡ stated) × Appends old new text) ⊎ ((e ≡ end.WriteFault) × AppendsFront old new text × Rose before now)
+-- ---- scripts
 
--- the source gave these bytes, and no more were left
-abbrev pub Gave : Option (List ℕ) → Option (List ℕ) → List ℕ → Type 0
-Gave old new bytes = Consumes old new bytes × IsAtEnd new
-
--- where the end is a script's fault, the bytes that the source gave have that fault at that place
-abbrev pub HasCause : Option (List ℕ) → Option (List ℕ) → End → Type 0
-HasCause old new (end.Script number col c) = (bytes : List ℕ) × Gave old new bytes × HasFault bytes (record { line = number; col = col; code = c })
-HasCause old new end.Spent = Unit {0}
-HasCause old new end.Quiescent = Unit {0}
-HasCause old new end.Usage = Unit {0}
-HasCause old new end.ReadFault = Unit {0}
-HasCause old new end.WriteFault = Unit {0}
-HasCause old new end.OutOfMemory = Unit {0}
-HasCause old new end.TooLong = Unit {0}
-
--- the ends that may come for words and a script that are right: those of a run, want of memory, and faults of the source
--- or the sink
-abbrev pub RanOrFailed : End → Type 0
-RanOrFailed end.Spent = Unit {0}
-RanOrFailed end.Quiescent = Unit {0}
-RanOrFailed end.OutOfMemory = Unit {0}
-RanOrFailed end.ReadFault = Unit {0}
-RanOrFailed end.WriteFault = Unit {0}
-RanOrFailed end.Usage = ⊥
-RanOrFailed end.TooLong = ⊥
-RanOrFailed (end.Script number col c) = ⊥
-
--- the ends that may come for words that are right and a script of another form than the one that is built: Unbuilt at its
--- first byte, want of memory, and faults of the source or the sink
-abbrev pub UnbuiltOrFailed : End → Type 0
-UnbuiltOrFailed (end.Script number col c) = (number ≡ 1) × (col ≡ 1) × (c ≡ code.Unbuilt)
-UnbuiltOrFailed end.OutOfMemory = Unit {0}
-UnbuiltOrFailed end.ReadFault = Unit {0}
-UnbuiltOrFailed end.WriteFault = Unit {0}
-UnbuiltOrFailed end.Spent = ⊥
-UnbuiltOrFailed end.Quiescent = ⊥
-UnbuiltOrFailed end.Usage = ⊥
-UnbuiltOrFailed end.TooLong = ⊥
-
--- the words are of the form, and the source tells the bytes that it will give, which are no more than its limit
-pub record IsAsked (words : List (List ℕ)) (left : Option (List ℕ)) (bytes : List ℕ) : Type 0 where
-  pub most : ℕ
-  pub asked : run_words words ≡ Some most
-  pub told : left ≡ Some bytes
-  pub short : length bytes ≤ 1048576
-
--- ---- refusals
-
--- a refusal for a script's fault: the bytes that the source gave have it
-abbrev pub IsRefused : Option (List ℕ) → Option (List ℕ) → Refusal → Type 0
-IsRefused old new (refusal.Script number col c) = HasCause old new (end.Script number col c)
-IsRefused old new refusal.Usage = Unit {0}
-IsRefused old new refusal.ReadFault = Unit {0}
-IsRefused old new refusal.OutOfMemory = Unit {0}
-IsRefused old new refusal.TooLong = Unit {0}
-
--- a refusal of bytes: a fault that they have, or want of memory
+-- a refusal of a script's bytes: a fault that they have, or want of memory
 abbrev pub IsRefusalOf : List ℕ → Refusal → Type 0
-IsRefusalOf bytes (refusal.Script number col c) = HasFault bytes (record { line = number; col = col; code = c })
+IsRefusalOf bytes (refusal.Script line col c) = HasFault bytes (record { line = line; col = col; code = c })
 IsRefusalOf bytes refusal.OutOfMemory = Unit {0}
 IsRefusalOf bytes refusal.Usage = ⊥
 IsRefusalOf bytes refusal.ReadFault = ⊥
 IsRefusalOf bytes refusal.TooLong = ⊥
 
 -- the refusal for bytes that stand for no network
-abbrev pub refused : NoNetwork → Refusal
-refused (none.Script fault) = refusal.Script fault.line fault.col fault.code
-refused none.OutOfMemory = refusal.OutOfMemory
+abbrev pub refusal_of : NoNetwork → Refusal
+refusal_of (none.Script fault) = refusal.Script fault.line fault.col fault.code
+refusal_of none.OutOfMemory = refusal.OutOfMemory
 
--- want of memory, or a fault of the source
-abbrev pub IsFailure : Refusal → Type 0
-IsFailure refusal.ReadFault = Unit {0}
-IsFailure refusal.OutOfMemory = Unit {0}
-IsFailure refusal.Usage = ⊥
-IsFailure refusal.TooLong = ⊥
-IsFailure (refusal.Script number col c) = ⊥
+-- ---- completeness
 
--- Unbuilt at the first byte, want of memory, or a fault of the source
-abbrev pub IsUnbuilt : {X : Type 0} → Result X Refusal → Type 0
-IsUnbuilt (Ok x) = ⊥
-IsUnbuilt (Err r) = UnbuiltOrFailed (end_of r)
+-- the source tells the bytes that it will give, which are no more than its limit
+abbrev pub IsToldWithin : Option (List ℕ) → List ℕ → Type 0
+IsToldWithin left bytes = (left ≡ Some bytes) × (length bytes ≤ script_limit)
+
+-- the words ask for a command that reads a script, and the source tells one within its limit
+abbrev pub IsAsked : List (List ℕ) → Option (List ℕ) → List ℕ → Type 0
+IsAsked words left bytes = IsReading words × IsToldWithin left bytes
+
+-- the ends that may come for words and a script that are right: those of the command, want of memory, and faults of the
+-- source or the sink
+abbrev pub DoneOrFailed : End → Type 0
+DoneOrFailed end.Spent = Unit {0}
+DoneOrFailed end.Quiescent = Unit {0}
+DoneOrFailed end.Done = Unit {0}
+DoneOrFailed end.OutOfMemory = Unit {0}
+DoneOrFailed end.ReadFault = Unit {0}
+DoneOrFailed end.WriteFault = Unit {0}
+DoneOrFailed end.Usage = ⊥
+DoneOrFailed end.TooLong = ⊥
+DoneOrFailed (end.Script line col c) = ⊥
+
+-- the ends that may come for words that are right and a script that has no meaning yet: Unbuilt at its first byte, want of
+-- memory, and faults of the source or the sink
+abbrev pub UnbuiltOrFailed : End → Type 0
+UnbuiltOrFailed (end.Script line col c) = (line ≡ 1) × (col ≡ 1) × (c ≡ code.Unbuilt)
+UnbuiltOrFailed end.OutOfMemory = Unit {0}
+UnbuiltOrFailed end.ReadFault = Unit {0}
+UnbuiltOrFailed end.WriteFault = Unit {0}
+UnbuiltOrFailed end.Spent = ⊥
+UnbuiltOrFailed end.Quiescent = ⊥
+UnbuiltOrFailed end.Done = ⊥
+UnbuiltOrFailed end.Usage = ⊥
+UnbuiltOrFailed end.TooLong = ⊥
+
+-- a refusal that ends the call so
+abbrev pub RefusedBy : {X : Type 0} → Result X Refusal → (End → Type 0) → Type 0
+RefusedBy (Ok x) P = ⊥
+RefusedBy (Err r) P = P (end_of r)
+
+-- what was answered, or the end of the refusal, is as stated
+abbrev pub UnlessRefused : {X : Type 0} → Result X Refusal → (End → Type 0) → Type 0
+UnlessRefused (Ok x) P = Unit {0}
+UnlessRefused (Err r) P = P (end_of r)

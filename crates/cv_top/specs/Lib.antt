@@ -1,5 +1,7 @@
+pub mod Answers
 pub mod Causes
-pub mod Ends
+pub mod Devices
+pub mod Generated
 pub mod Printed
 pub mod Ran
 pub mod Words

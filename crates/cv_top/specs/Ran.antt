@@ -1,7 +1,5 @@
 -- What a run leaves: its record, and its text.
 use Rattle.std.specs.Prelude.{◌≡◌, ℕ, List, [], ◌++◌, Some}
-use Rattle.std.specs.declared.option.Option.{Option}
-use Rattle.std.specs.Io.KnownBytes.{Appends}
 use Rattle.cv_deploy.specs.Faults.{Means}
 use Rattle.cv_kinds.specs.Net.{Net}
 use Rattle.cv_kinds.specs.Wired.{IsWired}
@@ -15,8 +13,9 @@ use Rattle.cv_solo.specs.OneRuntime.{Runtime, solo}
 use Rattle.cv_top.specs.declared.end.End.{End}
 use Rattle.cv_top.specs.declared.end.End.TheVariants as end
 use Rattle.cv_top.specs.Printed.{firings_of, IsTextOf}
-use Rattle.cv_top.specs.Causes.{Gave}
-use Rattle.cv_top.specs.Words.{run_words}
+use Rattle.cv_top.specs.declared.words.Command.TheVariants.{Run}
+use Rattle.cv_top.specs.Devices.{Reading, Gave}
+use Rattle.cv_top.specs.Words.{command_of}
 
 -- a run of a network, with so many firings at most, that stopped so, with this record and this text
 pub record IsRightRun (net : Net) (most : ℕ) (s : Stop) (m : Record) (text : List ℕ) : Type 0 where
@@ -40,37 +39,18 @@ pub record IsRunOfScript (bytes : List ℕ) (most : ℕ) (s : Stop) (m : Record)
 -- the same with as many firings at most as the words ask for
 pub record IsRunOf (words : List (List ℕ)) (bytes : List ℕ) (s : Stop) (m : Record) (text : List ℕ) : Type 0 where
   pub most : ℕ
-  pub asked : run_words words ≡ Some most
+  pub asked : command_of words ≡ Some (Run most)
   pub run : IsRunOfScript bytes most s m text
 
 -- a right run of the script that the source gave
-abbrev pub RunFrom : List (List ℕ) → Option (List ℕ) → Option (List ℕ) → Stop → Record → List ℕ → Type 0
-RunFrom words left rest s m text = (bytes : List ℕ) × Gave left rest bytes × IsRunOf words bytes s m text
-
--- the source gave a script, and the sink got exactly the text of a run of it with this record
-abbrev pub RanTo : List (List ℕ) → Option (List ℕ) → Option (List ℕ) → Option (List ℕ) → Option (List ℕ) → Stop → Record → Type 0
-RanTo words left rest old new s m = (text : List ℕ) × RunFrom words left rest s m text × Appends old new text
+abbrev pub RunFrom : List (List ℕ) → Reading → Stop → Record → List ℕ → Type 0
+RunFrom words r s m text = (bytes : List ℕ) × Gave r bytes × IsRunOf words bytes s m text
 
 -- no entry, and no node
 abbrev pub IsEmptyRecord : Record → Type 0
 IsEmptyRecord m = (m.entries ≡ []) × (m.specs ≡ [])
 
--- at the ends of a run the record and what the sink got are those of a run of the script that the source gave; at all
--- others the record is empty
-abbrev pub Ran : List (List ℕ) → Option (List ℕ) → Option (List ℕ) → Option (List ℕ) → Option (List ℕ) → End → Record → Type 0
-Ran words left rest old new end.Spent m = RanTo words left rest old new stop.Spent m
-Ran words left rest old new end.Quiescent m = RanTo words left rest old new stop.Quiescent m
-Ran words left rest old new end.Usage m = IsEmptyRecord m
-Ran words left rest old new (end.Script line col code) m = IsEmptyRecord m
-Ran words left rest old new end.ReadFault m = IsEmptyRecord m
-Ran words left rest old new end.WriteFault m = IsEmptyRecord m
-Ran words left rest old new end.OutOfMemory m = IsEmptyRecord m
-Ran words left rest old new end.TooLong m = IsEmptyRecord m
-
--- after a run that stopped so, with that record and that text: the outcome keeps the end and the record, and the sink got
--- the text; or the sink failed, and there is no record
-abbrev pub Finished : Stop → Record → List ℕ → Option (List ℕ) → Option (List ℕ) → End → Record → Type 0
-Finished stop.Spent kept text old new end.Spent m = (m ≡ kept) × Appends old new text
-Finished stop.Quiescent kept text old new end.Quiescent m = (m ≡ kept) × Appends old new text
-Finished s kept text old new end.WriteFault m = IsEmptyRecord m
-Finished s kept text old new _ m = ⊥
+-- the end of a run that stopped so
+abbrev pub end_at : Stop → End
+end_at stop.Spent = end.Spent
+end_at stop.Quiescent = end.Quiescent

@@ -1,7 +1,10 @@
 -- The words of a command line: which are of the form, and what they say.
-use Rattle.std.specs.Prelude.{ℕ, ◌+◌, ◌-◌, ◌*◌, Bool, ◌&&◌, nat_le, if◌then◌else◌, List, [], ◌∷◌, length, fold, Option, Some, None, codes}
+use Rattle.std.specs.Prelude.{ℕ, ◌+◌, ◌-◌, ◌*◌, Bool, true, false, ◌&&◌, nat_le, if◌then◌else◌, List, [], ◌∷◌, length, fold, Option, Some, None, codes}
 use Rattle.std.specs.List.{list_all}
+use Rattle.std.specs.Option.{option_map}
 use Rattle.std.specs.Str.{bytes_eq}
+use Rattle.cv_top.specs.declared.words.Command.{Command}
+use Rattle.cv_top.specs.declared.words.Command.TheVariants.{Run, Gen}
 
 abbrev pub is_digit : ℕ → Bool
 is_digit b = nat_le 48 b && nat_le b 57
@@ -25,8 +28,35 @@ default_firings = 1000
 abbrev pub firings_word : List ℕ → Option ℕ
 firings_word word = if is_number word && nat_le (number_of word) most_firings then Some (number_of word) else None
 
--- the firings that the words of `run` ask for: `run`, or `run --firings N`; None where the words are of another form
-abbrev pub run_words : List (List ℕ) → Option ℕ
-run_words (command ∷ []) = if bytes_eq command (codes "run") then Some default_firings else None
-run_words (command ∷ option ∷ value ∷ []) = if bytes_eq command (codes "run") && bytes_eq option (codes "--firings") then firings_word value else None
-run_words _ = None
+-- the option that bounds the firings, where it stands: `--firings N`
+abbrev pub firings_option : List (List ℕ) → Option ℕ
+firings_option [] = Some default_firings
+firings_option (option ∷ value ∷ []) = if bytes_eq option (codes "--firings") then firings_word value else None
+firings_option _ = None
+
+-- the most chains that `gen` prints
+abbrev pub most_chains : ℕ
+most_chains = 50
+
+-- a number of chains
+abbrev pub chains_word : List ℕ → Option ℕ
+chains_word word = if is_number word && nat_le 1 (number_of word) && nat_le (number_of word) most_chains then Some (number_of word) else None
+
+-- the one item of `gen`, with or without the mark `--` before it
+abbrev pub chains_item : List (List ℕ) → Option ℕ
+chains_item (word ∷ []) = chains_word word
+chains_item (mark ∷ word ∷ []) = if bytes_eq mark (codes "--") then chains_word word else None
+chains_item _ = None
+
+-- what the words ask for: `run` with or without `--firings N`, or `gen N`; None where the words are of another form
+abbrev pub command_of : List (List ℕ) → Option Command
+command_of [] = None
+command_of (command ∷ rest) =
+    if bytes_eq command (codes "run") then option_map Run (firings_option rest)
+    else if bytes_eq command (codes "gen") then option_map Gen (chains_item rest)
+    else None
+
+-- whether a command reads a script from the source
+abbrev pub reads_script : Command → Bool
+reads_script (Run most) = true
+reads_script (Gen number) = false

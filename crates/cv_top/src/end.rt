@@ -1,7 +1,9 @@
-//! How a call ends, with its status and its text.
+//! How a call ends, with its status, its record and its text.
 
 ghost use Rattle.std.specs.Prelude.{◌≡◌, [], vec_len};
-ghost use Rattle.cv_top.specs.Ends.{status_of, end_of, end_at};
+ghost use Rattle.cv_top.specs.Answers.{status_of};
+ghost use Rattle.cv_top.specs.Causes.{end_of};
+ghost use Rattle.cv_top.specs.Ran.{end_at, IsEmptyRecord};
 
 use cv_deploy::Code;
 use cv_node::{NodeSpecs, Record, Steps, Stop};
@@ -14,6 +16,8 @@ pub enum End {
     Spent,
     /// Nothing can fire and no token can move.
     Quiescent,
+    /// The command was done.
+    Done,
     /// The words are not of the form.
     Usage,
     /// The script has no meaning; its first fault, with line and column from 1, columns counting bytes.
@@ -28,13 +32,18 @@ pub enum End {
     TooLong,
 }
 
-/// Why nothing was run.
+/// Why a command was not done.
 #[derive(Debug, Clone, Copy, PartialEq, Eq)]
 pub enum Refusal {
+    /// The words are not of the form.
     Usage,
+    /// The script has no meaning.
     Script { line: u32, col: u32, code: Code },
+    /// The source failed.
     ReadFault,
+    /// Memory ran out.
     OutOfMemory,
+    /// The source gave more bytes than its limit.
     TooLong,
 }
 
@@ -51,6 +60,14 @@ impl Refusal {
             Refusal::TooLong => End::TooLong,
         }
     }
+}
+
+/// What a command answers that was done: how it ends, its record, and its text.
+#[derive(Drop)]
+pub struct Answer {
+    pub end: End,
+    pub merged: Record,
+    pub text: String,
 }
 
 /// The lengths of the nodes' journals at one moment.
@@ -72,37 +89,13 @@ pub struct Outcome {
 }
 
 impl Outcome {
-    /// The outcome of a run whose text was written.
-    pub fn of_run(alloc: Global, stop: Stop, merged: Record) -> Outcome
-        ensures end { result.end ≡ end_at stop }
-        ensures merged { result.merged ≡ merged }
-        ensures status { result.status ≡ status_of result.end }
-        ensures cuts { vec_len result.cuts ≡ 0 }
-    {
-        let end = match stop {
-            Stop::Spent => End::Spent,
-            Stop::Quiescent => End::Quiescent,
-        };
-        Outcome {
-            status: end.status(),
-            end,
-            merged,
-            cuts: Vec::new(alloc),
-        }
-    }
-
-    /// The outcome of a call that left no run.
-    pub fn of_none(alloc: Global, end: End) -> Outcome
+    /// The outcome of a call that ended so with this record.
+    pub fn new(alloc: Global, end: End, merged: Record) -> Outcome
         ensures end { result.end ≡ end }
-        ensures entries { result.merged.entries ≡ [] }
-        ensures specs { result.merged.specs ≡ [] }
-        ensures status { result.status ≡ status_of result.end }
+        ensures merged { result.merged ≡ merged }
+        ensures status { result.status ≡ status_of end }
         ensures cuts { vec_len result.cuts ≡ 0 }
     {
-        let merged = Record {
-            specs: NodeSpecs::new(alloc),
-            entries: Steps::new(alloc),
-        };
         Outcome {
             status: end.status(),
             end,
@@ -112,13 +105,33 @@ impl Outcome {
     }
 }
 
+/// A record without nodes and entries.
+pub fn empty_record(alloc: Global) -> Record
+    ensures { IsEmptyRecord result }
+{
+    Record {
+        specs: NodeSpecs::new(alloc),
+        entries: Steps::new(alloc),
+    }
+}
+
 impl End {
+    /// The end of a run that stopped so.
+    pub fn at(stop: Stop) -> End
+        ensures { result ≡ end_at stop }
+    {
+        match stop {
+            Stop::Spent => End::Spent,
+            Stop::Quiescent => End::Quiescent,
+        }
+    }
+
     /// The status with which the program ends.
     pub fn status(self) -> u8
         ensures { result ≡ status_of self }
     {
         match self {
-            End::Spent | End::Quiescent => 0,
+            End::Spent | End::Quiescent | End::Done => 0,
             End::Usage => 2,
             End::Script {
                 line: _,

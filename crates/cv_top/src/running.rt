@@ -5,14 +5,16 @@ ghost use Rattle.cv_deploy.specs.Faults.{Means, SpellsScript};
 ghost use Rattle.cv_deploy.specs.Meaning.{network_of};
 ghost use Rattle.cv_kinds.specs.Net.{Net};
 ghost use Rattle.cv_syntax.specs.declared.tree.Script.{Script};
-ghost use Rattle.cv_top.specs.Causes.{IsRefusalOf, IsFailure, IsUnbuilt, refused};
+ghost use Rattle.cv_node.specs.declared.run.Stop.{Stop};
+ghost use Rattle.cv_top.specs.Causes.{IsRefusalOf, DoneOrFailed, UnbuiltOrFailed, UnlessRefused, RefusedBy, refusal_of};
 ghost use Rattle.cv_solo.specs.OneRuntime.{Runtime, solo, solo_from};
 ghost use Rattle.cv_top.specs.Printed.{firings_of, last_lines, end_word, IsTextWhereDefined};
 ghost use Rattle.cv_merge.specs.Streams.{firing_of};
 ghost use Rattle.cv_kinds.specs.Wired.{IsWired};
-ghost use Rattle.cv_top.specs.Ran.{IsRightRun, IsRunOfScript};
+ghost use Rattle.cv_top.specs.Ran.{IsRightRun, end_at};
+ghost use Rattle.cv_top.specs.Answers.{IsRunAnswer};
 
-use crate::end::Refusal;
+use crate::end::{Answer, End, Refusal};
 use cv_deploy::{NoNetwork, compile};
 use cv_kinds::Network;
 use cv_node::{Event, Record, Step, Stop, run_alone};
@@ -20,31 +22,23 @@ use cv_solo::{Solo, SoloFault};
 use cv_token::OutOfMemory;
 use std::alloc::{AllocError, Global};
 
-/// What a run leaves: how it stopped, its record, and its text.
-#[derive(Drop)]
-pub struct Run {
-    pub stop: Stop,
-    pub merged: Record,
-    pub text: String,
-}
-
 /// Runs the script that the bytes spell on one node, with so many firings at most.
-pub fn run_script(alloc: Global, bytes: &[u8], most: u32) -> Result<Run, Refusal>
+pub fn run_script(alloc: Global, bytes: &[u8], most: u32) -> Result<Answer, Refusal>
     requires { length bytes.now ≤ 2 ^ 31 }
-    ensures ran { IfOk result (λ run. IsRunOfScript bytes.now most run.stop run.merged (string_bytes run.text)) }
+    ensures ran { IfOk result (λ answer. IsRunAnswer bytes.now most answer) }
     ensures cause { IfErr result (IsRefusalOf bytes.now) }
-    ensures complete { (net : Net) → Means bytes.now net → IfErr result IsFailure }
-    ensures unbuilt { (script : Script) → SpellsScript bytes.now script → network_of script.items ≡ None → IsUnbuilt result }
+    ensures complete { (net : Net) → Means bytes.now net → UnlessRefused result DoneOrFailed }
+    ensures unbuilt { (script : Script) → SpellsScript bytes.now script → network_of script.items ≡ None → RefusedBy result UnbuiltOrFailed }
 {
     match compile(alloc, bytes) {
         Ok(net) => run_network(alloc, net, most).map_err(|_| Refusal::OutOfMemory),
-        Err(none) => Err(refused(none)),
+        Err(none) => Err(refusal_of(none)),
     }
 }
 
 /// The refusal for bytes that stand for no network.
-fn refused(none: NoNetwork) -> Refusal
-    ensures { result ≡ refused none }
+fn refusal_of(none: NoNetwork) -> Refusal
+    ensures { result ≡ refusal_of none }
 {
     match none {
         NoNetwork::Script(fault) => Refusal::Script {
@@ -58,13 +52,17 @@ fn refused(none: NoNetwork) -> Refusal
 
 /// Runs a network on one node, with so many firings at most.
 #[tactic(auto, using(crate::proofs::Rights::right_run))]
-pub fn run_network(alloc: Global, net: Network, most: u32) -> Result<Run, OutOfMemory>
+fn run_network(alloc: Global, net: Network, most: u32) -> Result<Answer, OutOfMemory>
     requires { IsWired net }
-    ensures { IfOk result (λ run. IsRightRun net most run.stop run.merged (string_bytes run.text)) }
+    ensures { IfOk result (λ answer. (stop : Stop) × (answer.end ≡ end_at stop) × IsRightRun net most stop answer.merged (string_bytes answer.text)) }
 {
     let (stop, merged) = run_alone(alloc, net.copy(alloc)?, most)?;
     let text = printed(alloc, &net, merged.entries.as_slice(), stop)?;
-    Ok(Run { stop, merged, text })
+    Ok(Answer {
+        end: End::at(stop),
+        merged,
+        text,
+    })
 }
 
 /// The text of a run: the lines of its prints, the number of its firings, and its end.

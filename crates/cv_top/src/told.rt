@@ -1,45 +1,58 @@
-//! What is written to the sink where nothing was run.
+//! What is written to the sink.
 
-ghost use Rattle.std.specs.Prelude.{◌≡◌, IfOk, IfErr, length, string_bytes, OnOk, OnErr};
-ghost use Rattle.std.specs.Io.KnownBytes.{Appends};
-ghost use Rattle.cv_io.specs.Faults.{Rose};
-ghost use Rattle.cv_io.specs.Whole.{AppendsFront};
-ghost use Rattle.cv_top.specs.Causes.{WrittenTo, EndsAfter, script_line};
-ghost use Rattle.cv_top.specs.Ends.{EndsAs};
+ghost use Rattle.std.specs.Prelude.{◌≡◌, ◌⊎◌, ℕ, List, IfOk, string_bytes, vec_len};
+ghost use Rattle.cv_top.specs.Answers.{status_of, IsTold, IsAnswered};
+ghost use Rattle.cv_top.specs.Causes.{IsCause, EndsAs, end_of, line_of, script_line};
+ghost use Rattle.cv_top.specs.Devices.{Reading};
 
-use crate::end::{End, Refusal};
+use crate::end::{End, Outcome, Refusal, empty_record};
 use cv_deploy::Code;
 use cv_io::{Sink, write_all};
+use cv_node::Record;
 use cv_token::OutOfMemory;
 use std::alloc::Global;
 
-/// Writes the line of a refusal, and tells how the call ends: as the refusal says, or by want of memory where its line
-/// could not be made, or by the sink's failure.
-pub fn write_refusal<K: Sink>(alloc: Global, sink: &mut K, refusal: Refusal) -> End
-    ensures ends { EndsAs refusal result }
-    ensures written { WrittenTo (K.written sink.old) (K.written sink.new) result }
-    ensures write_fault { result ≡ End.WriteFault → Rose (K.faults sink.old) (K.faults sink.new) }
+/// Writes the text of an answer; the outcome has the answer's end and record, or those of the sink's failure.
+pub fn tell<K: Sink>(alloc: Global, sink: &mut K, end: End, merged: Record, text: &str) -> Outcome
+    ensures told { IsTold (record { old = K.written sink.old; new = K.written sink.new; before = K.faults sink.old; now = K.faults sink.new }) end merged text.now result.end result.merged }
+    ensures status { result.status ≡ status_of result.end }
+    ensures cuts { vec_len result.cuts ≡ 0 }
+{
+    match write_all(sink, text.as_bytes()) {
+        Ok(()) => Outcome::new(alloc, end, merged),
+        Err(_) => Outcome::new(alloc, End::WriteFault, empty_record(alloc)),
+    }
+}
+
+/// Writes the line of a refusal. Where memory is refused to the line, the call ends by want of memory.
+pub fn tell_refusal<K: Sink>(alloc: Global, sink: &mut K, refusal: Refusal) -> Outcome
+    ensures told { (words : List (List ℕ)) (r : Reading) → IsCause words r refusal → IsAnswered words r (record { old = K.written sink.old; new = K.written sink.new; before = K.faults sink.old; now = K.faults sink.new }) result.end result.merged }
+    ensures ends { EndsAs refusal result.end }
+    ensures status { result.status ≡ status_of result.end }
+    ensures cuts { vec_len result.cuts ≡ 0 }
 {
     match refusal {
-        Refusal::Usage => write_line(sink, "usage\n", End::Usage),
-        Refusal::ReadFault => write_line(sink, "read\n", End::ReadFault),
-        Refusal::TooLong => write_line(sink, "long\n", End::TooLong),
-        Refusal::OutOfMemory => write_line(sink, "memory\n", End::OutOfMemory),
+        Refusal::Usage => tell_line(alloc, sink, refusal, "usage\n"),
+        Refusal::ReadFault => tell_line(alloc, sink, refusal, "read\n"),
+        Refusal::TooLong => tell_line(alloc, sink, refusal, "long\n"),
+        Refusal::OutOfMemory => tell_line(alloc, sink, refusal, "memory\n"),
         Refusal::Script { line, col, code } => match script_line(alloc, line, col, code) {
-            Ok(text) => write_line(sink, text.as_str(), End::Script { line, col, code }),
-            Err(_) => write_line(sink, "memory\n", End::OutOfMemory),
+            Ok(text) => tell_line(alloc, sink, refusal, text.as_str()),
+            Err(_) => tell_line(alloc, sink, Refusal::OutOfMemory, "memory\n"),
         },
     }
 }
 
-/// Writes a text, and tells how the call ends: as stated, or by the sink's failure.
-pub fn write_line<K: Sink>(sink: &mut K, text: &str, end: End) -> End
-    ensures { EndsAfter (K.written sink.old) (K.written sink.new) (K.faults sink.old) (K.faults sink.new) text.now end result }
+/// Writes this line of a refusal.
+#[tactic(auto, using(crate::proofs::Refusals::refusal_told))]
+fn tell_line<K: Sink>(alloc: Global, sink: &mut K, refusal: Refusal, line: &str) -> Outcome
+    requires { line.now ≡ line_of refusal }
+    ensures told { (words : List (List ℕ)) (r : Reading) → IsCause words r refusal → IsAnswered words r (record { old = K.written sink.old; new = K.written sink.new; before = K.faults sink.old; now = K.faults sink.new }) result.end result.merged }
+    ensures ends { (result.end ≡ end_of refusal) ⊎ (result.end ≡ End.WriteFault) }
+    ensures status { result.status ≡ status_of result.end }
+    ensures cuts { vec_len result.cuts ≡ 0 }
 {
-    match write_all(sink, text.as_bytes()) {
-        Ok(()) => end,
-        Err(_) => End::WriteFault,
-    }
+    tell(alloc, sink, refusal.end(), empty_record(alloc), line)
 }
 
 /// The line of a script's fault: its place and its code.

@@ -1,7 +1,7 @@
 //! The words of the command line, read by hand.
 
 ghost use Rattle.std.specs.Prelude.{◌≡◌, ◌<◌, ◌≤◌, ◌^◌, length, map, string_bytes, true};
-ghost use Rattle.cv_top.specs.Words.{run_words, firings_word, is_number, is_digit, number_of};
+ghost use Rattle.cv_top.specs.Words.{command_of, firings_option, firings_word, chains_item, chains_word, is_number, is_digit, number_of};
 ghost use Rattle.std.specs.List.{list_all};
 
 /// How many firings a run makes at most where the words do not say.
@@ -10,23 +10,77 @@ pub const DEFAULT_FIRINGS: u32 = 1000;
 /// The most firings that words may ask for.
 pub const MOST_FIRINGS: u32 = 100_000;
 
-/// How many firings the words of `run` ask for; None exactly where they are of another form.
-pub fn read_words(words: &[String]) -> Option<u32>
-    ensures { result ≡ run_words (map string_bytes words.now) }
+/// The most chains that `gen` prints.
+pub const MOST_CHAINS: u32 = 50;
+
+/// What the words ask for.
+#[derive(Debug, Clone, Copy, PartialEq, Eq)]
+pub enum Command {
+    /// To run the script with so many firings at most, and to print its streams.
+    Run { firings: u32 },
+    /// To print a script of so many chains.
+    Gen { number: u32 },
+}
+
+/// What the words ask for: `run`, `run --firings N` or `gen N`; None exactly where they are of another form.
+pub fn read_command(words: &[String]) -> Option<Command>
+    ensures { result ≡ command_of (map string_bytes words.now) }
+{
+    let [command, rest @ ..] = words else {
+        return None
+    };
+    if command.as_str() == "run" {
+        let firings = read_firings_option(rest)?;
+        Some(Command::Run { firings })
+    } else if command.as_str() == "gen" {
+        let number = read_chains_item(rest)?;
+        Some(Command::Gen { number })
+    } else {
+        None
+    }
+}
+
+/// The number of chains of `gen`, with or without the mark `--` before it.
+fn read_chains_item(words: &[String]) -> Option<u32>
+    ensures { result ≡ chains_item (map string_bytes words.now) }
 {
     match words {
-        [command] => if command.as_str() == "run" {
-            Some(DEFAULT_FIRINGS)
+        [word] => read_chains(word.as_bytes()),
+        [mark, word] => if mark.as_str() == "--" {
+            read_chains(word.as_bytes())
         } else {
             None
         },
-        [command, option, value] => {
-            if command.as_str() == "run" && option.as_str() == "--firings" {
-                read_firings(value.as_bytes())
-            } else {
-                None
-            }
-        }
+        _ => None,
+    }
+}
+
+/// The number of chains that a word asks for, where it is a number of 1 to 9 digits from 1 to the limit.
+fn read_chains(word: &[u8]) -> Option<u32>
+    ensures { result ≡ chains_word word.now }
+{
+    if !is_number(word) {
+        return None;
+    }
+    let number = number_of(word);
+    if 1 <= number && number <= MOST_CHAINS {
+        Some(number)
+    } else {
+        None
+    }
+}
+
+/// The bound of `--firings N`, and the default where the option does not stand; None where the words are of another form.
+fn read_firings_option(words: &[String]) -> Option<u32>
+    ensures { result ≡ firings_option (map string_bytes words.now) }
+{
+    match words {
+        [] => Some(DEFAULT_FIRINGS),
+        [option, value] => if option.as_str() == "--firings" {
+            read_firings(value.as_bytes())
+        } else {
+            None
+        },
         _ => None,
     }
 }

@@ -1,0 +1,100 @@
+//! Rows of `gen`, and of refusals that come late in a text or from devices that fail.
+
+use super::*;
+use cv_io::Source;
+use std::test::Fail;
+
+/// The nine lines of the first chain.
+const FIRST: &str = "src1 : std.CountTimer(sleep=0.01, start=1, steps=40)\n\
+mid1 : std.Identity()\n\
+sum1 : std.Sum()\n\
+pick1 : flow.Every(n=10)\n\
+snk1 : io.Print()\n\
+src1.integer > mid1.token\n\
+mid1.token > sum1.integer\n\
+sum1.integer > pick1.token\n\
+pick1.token > snk1.token\n";
+
+/// How many line feeds the bytes have.
+fn line_count(bytes: &[u8]) -> usize {
+    bytes.iter().filter(|byte| **byte == b'\n').count()
+}
+
+#[test]
+fn scripts_are_generated(rt: HostRuntime) -> Result<(), Fail> {
+    let alloc = rt.alloc();
+    // the words, the status, and how many lines are printed
+    let rows = [
+        (["gen", "1"].as_slice(), 0, 9),
+        (["gen", "2"].as_slice(), 0, 18),
+        (["gen", "--", "50"].as_slice(), 0, 450),
+        (["gen", "0"].as_slice(), 2, 1),
+        (["gen", "51"].as_slice(), 2, 1),
+        (["gen", "x"].as_slice(), 2, 1),
+        (["gen"].as_slice(), 2, 1),
+        (["gen", "1", "1"].as_slice(), 2, 1),
+    ];
+    for (words, wanted, lines) in rows {
+        // nothing is read: a source that fails at its first call is not asked
+        let mut source = MemSource::new(Vec::new(alloc), 1, vec![in alloc; 1]?);
+        let mut sink = MemSink::new(alloc, 1000, Vec::new(alloc));
+        assert_eq!(rt; status(&rt, alloc, words, &mut source, &mut sink)?, wanted);
+        assert_eq!(rt; line_count(sink.bytes()), lines);
+    }
+    let mut source = MemSource::new(Vec::new(alloc), 1, Vec::new(alloc));
+    let mut sink = MemSink::new(alloc, 1000, Vec::new(alloc));
+    assert_eq!(rt;
+        status(&rt, alloc, &["gen", "1"], &mut source, &mut sink)?,
+        0
+    );
+    assert_eq!(rt; sink.bytes(), FIRST.as_bytes());
+    Ok(())
+}
+
+#[test]
+fn faults_far_out_are_told(rt: HostRuntime) -> Result<(), Fail> {
+    let alloc = rt.alloc();
+    // what stands before, how often, what stands behind, and the fault
+    let rows = [
+        ("// a line\n", 1000, "?", "script 1001:1 BadChar\n"),
+        (
+            "[1,2,3] > a.b\n",
+            20,
+            "[[[[[[[[[[[[[[[[[1]]]]]]]]]]]]]]]]] > a.b",
+            "script 21:17 TooDeep\n",
+        ),
+    ];
+    for (before, count, behind, fault) in rows {
+        let mut script = String::new(alloc);
+        for _ in 0..count {
+            script.push_str(before)?;
+        }
+        script.push_str(behind)?;
+        let mut source = MemSource::new(script.into_bytes(), 4096, Vec::new(alloc));
+        let mut sink = MemSink::new(alloc, 1000, Vec::new(alloc));
+        assert_eq!(rt; status(&rt, alloc, &["run"], &mut source, &mut sink)?, 3);
+        assert_eq!(rt; sink.bytes(), fault.as_bytes());
+    }
+    Ok(())
+}
+
+#[test]
+fn a_failed_sink_gets_the_front_of_one_line_alone(rt: HostRuntime) -> Result<(), Fail> {
+    let alloc = rt.alloc();
+    let bytes = Vec::from_slice(alloc, "a : A".as_bytes())?;
+    let mut source = MemSource::new(bytes, 100, Vec::new(alloc));
+    // the second call fails, and no third is made
+    let mut sink = MemSink::new(alloc, 7, vec![in alloc; 2]?);
+    assert_eq!(rt; status(&rt, alloc, &["run"], &mut source, &mut sink)?, 5);
+    assert_eq!(rt; sink.bytes(), "script ".as_bytes());
+    // words of no form whose line can't be written leave the source alone
+    let mut unread = MemSource::new(vec![in alloc; 7]?, 1, Vec::new(alloc));
+    let mut failing = MemSink::new(alloc, 7, vec![in alloc; 1]?);
+    assert_eq!(rt;
+        status(&rt, alloc, &["walk"], &mut unread, &mut failing)?,
+        5
+    );
+    let mut buf = [0u8; 4];
+    assert_eq!(rt; unread.read(&mut buf), cv_io::Got::Bytes(1));
+    Ok(())
+}
