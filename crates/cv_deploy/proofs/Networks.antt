@@ -4,10 +4,10 @@ use Rattle.std.proofs.Math.Logic.{⊎_elim}
 use Rattle.std.proofs.lemmas.Bool.{eq-eqb}
 use Rattle.std.specs.Str.{bytes_eq}
 use Rattle.cv_kinds.specs.declared.kind.Kind.{Kind}
-use Rattle.cv_kinds.specs.declared.kind.Kind.TheVariants.{Constant, Identity, Print}
 use Rattle.cv_kinds.specs.declared.network.ActorSpec.{ActorSpec}
 use Rattle.cv_kinds.specs.declared.network.Join.{Join}
-use Rattle.cv_kinds.specs.KindRow.{inport_count, outport_count}
+use Rattle.cv_kinds.specs.KindRow.{row_of}
+use Rattle.cv_kinds.proofs.Lines.{inport_within, outport_within}
 use Rattle.cv_kinds.specs.Names.{inport_named, outport_named}
 use Rattle.cv_kinds.specs.Net.{Net}
 use Rattle.cv_kinds.specs.Wired.{HasInport, HasOutport, IsWired, Joins}
@@ -44,20 +44,6 @@ and_true false b e = cc
 
 -- ---- ports that are there
 
-zero_of : (b : Bool) (n : ℕ) → (if b then Some 0 else None) ≡ Some n → n < 1
-zero_of true n e = let same : 0 ≡ n = cc in omega (arith, same)
-zero_of false n e = cc
-
-outport_there : (k : Kind) (name : List ℕ) (n : ℕ) → outport_named k name ≡ Some n → n < outport_count k
-outport_there Constant name n e = zero_of (bytes_eq name (codes "token")) n e
-outport_there Identity name n e = zero_of (bytes_eq name (codes "token")) n e
-outport_there Print name n e = cc
-
-inport_there : (k : Kind) (name : List ℕ) (n : ℕ) → inport_named k name ≡ Some n → n < inport_count k
-inport_there Constant name n e = cc
-inport_there Identity name n e = zero_of (bytes_eq name (codes "token")) n e
-inport_there Print name n e = zero_of (bytes_eq name (codes "token")) n e
-
 -- a port that was found by its name: its actor is there, and its kind has a port of that name
 port_there : (named : Kind → List ℕ → Option ℕ) (actors : List ActorSpec) (actor port : List ℕ) (p : ℕ × ℕ) → port_named named port (actor_named actors actor) ≡ Some p
     → (a : ActorSpec) × (slice_get actors p.0 ≡ Some a) × (named a.kind port ≡ Some p.1)
@@ -78,7 +64,7 @@ port_there named actors actor port p e = found (actor_named actors actor) refl e
 
 producer_there : (actors : List ActorSpec) (source : Source) (p : ℕ × ℕ) → producer_of actors source ≡ Some p → HasOutport (slice_get actors p.0) p.1
 producer_there actors (sources.Port actor port) p e =
-    let h = port_there outport_named actors actor port p e in subst (λ (o : Option ActorSpec). HasOutport o p.1) (sym h.1) (outport_there h.0.kind port p.1 h.2)
+    let h = port_there outport_named actors actor port p e in subst (λ (o : Option ActorSpec). HasOutport o p.1) (sym h.1) (outport_within h.0.kind port p.1 h.2)
 producer_there actors sources.Voidport p e = cc
 producer_there actors (sources.Own port) p e = cc
 producer_there actors (sources.Name name) p e = cc
@@ -86,7 +72,7 @@ producer_there actors (sources.Literal l) p e = cc
 
 target_there : (actors : List ActorSpec) (target : Target) (p : ℕ × ℕ) → inport_of actors target ≡ Some p → HasInport (slice_get actors p.0) p.1
 target_there actors (targets.Port actor port) p e =
-    let h = port_there inport_named actors actor port p e in subst (λ (o : Option ActorSpec). HasInport o p.1) (sym h.1) (inport_there h.0.kind port p.1 h.2)
+    let h = port_there inport_named actors actor port p e in subst (λ (o : Option ActorSpec). HasInport o p.1) (sym h.1) (inport_within h.0.kind port p.1 h.2)
 target_there actors targets.Voidport p e = cc
 target_there actors (targets.Own port) p e = cc
 

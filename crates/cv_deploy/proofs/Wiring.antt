@@ -2,10 +2,10 @@
 use Rattle.std.proofs.Common.{◌≡◌, ℕ, zero, suc, ◌+◌, ◌*◌, ◌≤◌, ◌==◌, Bool, true, false, if◌then◌else◌, List, [], ◌∷◌, ◌++◌, length, slice_get, Option, Some, None, option_map, option_and_then, refl, ap, ◌∙◌, sym, subst, arith, ◌⊎◌, inl, inr}
 use Rattle.std.proofs.lemmas.Bool.Decides.{Decides-eqb}
 use Rattle.cv_kinds.specs.declared.kind.Kind.{Kind}
-use Rattle.cv_kinds.specs.declared.kind.Kind.TheVariants.{Constant, Identity, Print}
 use Rattle.cv_kinds.specs.declared.network.ActorSpec.{ActorSpec}
 use Rattle.cv_kinds.specs.declared.network.Join.{Join}
-use Rattle.cv_kinds.specs.KindRow.{inport_count}
+use Rattle.cv_kinds.specs.KindRow.{row_of}
+use Rattle.cv_kinds.proofs.Lines.{few_ports}
 use Rattle.cv_deploy.specs.Lists.{all_given, one_of, first_at}
 use Rattle.cv_deploy.specs.Meaning.{consumer_key, feeder_in, ports_from, inports_from}
 
@@ -37,26 +37,21 @@ ports_rise place port zero ks few rise = rising_from (place * 256 + port) ((plac
 ports_rise place port (suc n) ks few rise =
     (omega arith, subst (λ (low : ℕ). Rising low (ports_from place (port + 1) n ++ ks)) (omega arith) (ports_rise place (port + 1) n ks (omega (arith, few)) rise))
 
-few_inports : (k : Kind) → inport_count k ≤ 1
-few_inports Constant = omega arith
-few_inports Identity = omega arith
-few_inports Print = omega arith
-
 inports_rise : (place : ℕ) (actors : List ActorSpec) → Rising (place * 256) (inports_from place actors)
 inports_rise place [] = tt
 inports_rise place (a ∷ actors) =
     rising_from (place * 256) (place * 256 + 0) _ (omega arith)
-    (ports_rise place 0 (inport_count a.kind) (inports_from (suc place) actors) (omega (arith, few_inports a.kind))
+    (ports_rise place 0 (row_of a.kind).inports (inports_from (suc place) actors) (omega (arith, (few_ports a.kind).0))
     (subst (λ (n : ℕ). Rising (n * 256) (inports_from (suc place) actors)) (omega arith) (inports_rise (suc place) actors)))
 
 length-ports_from : (place port n : ℕ) (ks : List ℕ) → length (ports_from place port n ++ ks) ≡ n + length ks
 length-ports_from place port zero ks = omega arith
 length-ports_from place port (suc n) ks = omega (arith, length-ports_from place (port + 1) n ks)
 
--- there are no more inports than actors
-pub few_inports_from : (place : ℕ) (actors : List ActorSpec) → length (inports_from place actors) ≤ length actors
+-- there are no more inports than three an actor
+pub few_inports_from : (place : ℕ) (actors : List ActorSpec) → length (inports_from place actors) ≤ 3 * length actors
 few_inports_from place [] = omega arith
-few_inports_from place (a ∷ actors) = omega (arith, length-ports_from place 0 (inport_count a.kind) (inports_from (suc place) actors), few_inports a.kind, few_inports_from (suc place) actors)
+few_inports_from place (a ∷ actors) = omega (arith, length-ports_from place 0 (row_of a.kind).inports (inports_from (suc place) actors), (few_ports a.kind).0, few_inports_from (suc place) actors)
 
 -- ---- each inport's connection
 

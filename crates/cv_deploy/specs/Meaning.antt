@@ -1,14 +1,13 @@
--- The network that a script stands for, where it is of the form that is built: declarations of the three kinds with
--- literals for arguments, and joins from one port to one port.
+-- The network that a script stands for, where it is of the form that is built: declarations of kinds with
+-- literals and fractions for arguments, and joins from one port to one port.
 use Rattle.std.specs.Prelude.{ℕ, zero, suc, ◌+◌, ◌*◌, ◌==◌, Bool, ◌&&◌, nat_le, if◌then◌else◌, List, [], ◌∷◌, ◌++◌, map, length, slice_get, Option, Some, None, option_map, option_and_then}
 use Rattle.std.specs.Str.{bytes_eq}
 use Rattle.cv_kinds.specs.declared.kind.Kind.{Kind}
 use Rattle.cv_kinds.specs.declared.network.ActorSpec.{ActorSpec}
 use Rattle.cv_kinds.specs.declared.network.Join.{Join}
-use Rattle.cv_kinds.specs.KindRow.{inport_count}
+use Rattle.cv_kinds.specs.KindRow.{row_of}
 use Rattle.cv_kinds.specs.Names.{kind_named, place_from, inport_named, outport_named}
 use Rattle.cv_kinds.specs.Net.{Net}
-use Rattle.cv_kinds.specs.Parameters.{parameters}
 use Rattle.cv_syntax.specs.declared.tree.KindName.{KindName}
 use Rattle.cv_syntax.specs.declared.tree.KindName.TheVariants as kinds
 use Rattle.cv_syntax.specs.declared.tree.Declare.{Declare}
@@ -34,7 +33,7 @@ kind_of (kinds.Dotted first second) = kind_named (first ++ 46 ∷ second)
 
 -- an actor of that path and kind, where its arguments are the kind's
 abbrev pub actor_with : Declare → Kind → Option ActorSpec
-actor_with d k = option_map (λ args. record { path = d.name.text; kind = k; args = args }) (arguments_of (parameters k) d.args)
+actor_with d k = option_map (λ args. record { path = d.name.text; kind = k; args = args }) (arguments_of k d.args)
 
 -- the actor that a declaration makes
 abbrev pub actor_of : Declare → Option ActorSpec
@@ -134,7 +133,7 @@ ports_from place port (suc n) = port_key place port ∷ ports_from place (port +
 -- the inports of the actors from a place on, by actor and then number
 abbrev pub inports_from : ℕ → List ActorSpec → List ℕ
 inports_from place [] = []
-inports_from place (a ∷ actors) = ports_from place 0 (inport_count a.kind) ++ inports_from (suc place) actors
+inports_from place (a ∷ actors) = ports_from place 0 (row_of a.kind).inports ++ inports_from (suc place) actors
 
 -- the one connection of each inport, in the order of the inports; None where an inport has none or two, or an outport two
 abbrev pub arranged : List ActorSpec → List Join → Option (List Join)

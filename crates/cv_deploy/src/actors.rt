@@ -7,7 +7,7 @@ ghost use Rattle.cv_deploy.specs.Lists.{all_given, one_of, are_apart, Adds};
 ghost use Rattle.cv_deploy.specs.Meaning.{kind_of, actor_with, actor_of, actors_in, paths, place_of};
 
 use crate::arguments::arguments_of;
-use cv_kinds::{ActorSpec, Kind, find, parameters};
+use cv_kinds::{ActorSpec, Kind, find};
 use cv_syntax::{Declare, Item, KindName, Statement};
 use cv_token::OutOfMemory;
 use std::alloc::Global;
@@ -50,7 +50,7 @@ fn actor_of(alloc: Global, declare: &Declare) -> Result<Option<ActorSpec>, OutOf
     let Some(kind) = kind_of(alloc, &declare.kind)? else {
         return Ok(None)
     };
-    let Some(args) = arguments_of(alloc, parameters(kind), declare.args.as_slice())? else {
+    let Some(args) = arguments_of(alloc, kind, declare.args.as_slice())? else {
         return Ok(None)
     };
     let path = declare.name.text.copy(alloc)?;

@@ -1,72 +1,52 @@
 //! The arguments of an actor.
 
-ghost use Rattle.std.specs.Prelude.{◌≡◌, ◌↔◌, ◌≤◌, length, IfOk, IsTrue, option_map};
+ghost use Rattle.std.specs.Prelude.{◌≡◌, ◌≤◌, [], map, length, IfOk, option_map};
 ghost use Rattle.std.specs.List.{list_all};
-ghost use Rattle.cv_deploy.specs.Arguments.{is_fit, taken, value_given, argument_named, given_to, times, is_known, is_once, are_known, arguments_of};
-ghost use Rattle.cv_deploy.specs.Lists.{one_of, Adds};
+ghost use Rattle.cv_kinds.specs.Table.{entry_of, taking};
+ghost use Rattle.cv_deploy.specs.Arguments.{accepted, argument_given, arguments_of, is_once, times, value_given};
+ghost use Rattle.cv_deploy.specs.Lists.{all_given, one_of, Adds};
 
 use crate::values::token_of;
-use cv_kinds::Parameter;
+use cv_kinds::{ArgFault, ArgList, Argument, Given, Kind, Param, check_args};
 use cv_syntax::{Arg, Value};
-use cv_token::{Items, OutOfMemory, Token, fits};
-use std::alloc::Global;
+use cv_token::{Items, OutOfMemory};
+use std::alloc::{AllocError, Global};
 
-/// What the parameters are given, in their order; None where an argument is of none of them or stands twice, or where
-/// one of them is given nothing that it takes.
-pub fn arguments_of(
-    alloc: Global,
-    parameters: &[Parameter],
-    args: &[Arg],
-) -> Result<Option<Items>, OutOfMemory>
-    ensures { IfOk result (λ found. found ≡ arguments_of parameters.now args.now) }
+/// The arguments of an actor of the kind, in the order of its parameters; None where one stands twice, where one is a name
+/// or stands for no token, or where the kind does not take them.
+pub fn arguments_of(alloc: Global, kind: Kind, args: &[Arg]) -> Result<Option<Items>, OutOfMemory>
+    ensures { IfOk result (λ found. found ≡ arguments_of kind args.now) }
 {
-    if !are_known(parameters, args) {
+    if !are_once(kind.entry().params, args) {
         return Ok(None);
     }
-    let mut items = Items::new(alloc);
-    for parameter in parameters {
-        if !give(alloc, *parameter, args, &mut items)? {
-            return Ok(None);
-        }
+    let Some(given) = arguments_given(alloc, args)? else {
+        return Ok(None)
+    };
+    accepted(alloc, kind, &given)
+}
+
+/// The arguments that the kind makes of what is given, where nothing is wrong with it.
+fn accepted(alloc: Global, kind: Kind, given: &ArgList) -> Result<Option<Items>, OutOfMemory>
+    ensures { IfOk result (λ found. found ≡ accepted (entry_of kind).params given.now) }
+{
+    match check_args(alloc, kind, given) {
+        Ok(args) => Ok(Some(args)),
+        Err(ArgFault::OutOfMemory) => Err(AllocError),
+        Err(_) => Ok(None),
     }
-    Ok(Some(items))
-}
-
-/// Whether each argument is of one of the parameters, and no parameter has two.
-fn are_known(parameters: &[Parameter], args: &[Arg]) -> bool
-    ensures { result ≡ are_known parameters.now args.now }
-{
-    all_known(parameters, args) && all_once(parameters, args)
-}
-
-/// Whether each argument is of one of the parameters.
-fn all_known(parameters: &[Parameter], args: &[Arg]) -> bool
-    ensures { result ≡ list_all (is_known parameters.now) args.now }
-{
-    args.iter().all(|arg| is_known(parameters, arg))
 }
 
 /// Whether no parameter has two arguments.
-fn all_once(parameters: &[Parameter], args: &[Arg]) -> bool
-    ensures { result ≡ list_all (is_once args.now) parameters.now }
+fn are_once(params: &[Param], args: &[Arg]) -> bool
+    ensures { result ≡ list_all (is_once args.now) (map taking params.now) }
 {
-    parameters.iter().all(|parameter| is_once(args, *parameter))
-}
-
-/// Whether a parameter has at most one argument.
-fn is_once(args: &[Arg], parameter: Parameter) -> bool
-    ensures { result ≡ is_once args.now parameter }
-{
-    times(args, parameter.name()) <= 1
-}
-
-/// Whether an argument is of one of the parameters.
-fn is_known(parameters: &[Parameter], arg: &Arg) -> bool
-    ensures { result ≡ is_known parameters.now arg.now }
-{
-    parameters
-        .iter()
-        .any(|parameter| arg.name.text.as_str() == parameter.name())
+    for param in params {
+        if times(args, param.name) > 1 {
+            return false;
+        }
+    }
+    true
 }
 
 /// How many arguments have a name.
@@ -82,60 +62,41 @@ fn times(args: &[Arg], name: &str) -> usize
     count
 }
 
-/// Puts what a parameter is given behind the items; false where that is nothing.
-fn give(
-    alloc: Global,
-    parameter: Parameter,
-    args: &[Arg],
-    items: &mut Items,
-) -> Result<bool, OutOfMemory>
-    ensures { IfOk result (Adds (one_of (given_to args.now parameter)) items.old items.new) }
+/// The arguments as the kind is given them; None where one gives nothing.
+fn arguments_given(alloc: Global, args: &[Arg]) -> Result<Option<ArgList>, OutOfMemory>
+    ensures { IfOk result (λ found. found ≡ all_given (λ a. one_of (argument_given a)) args.now) }
 {
-    let given = match argument_named(args, parameter.name()) {
-        Some(value) => value_given(alloc, parameter, value)?,
-        None => parameter.default(),
+    let mut given = ArgList::new(alloc);
+    for arg in args {
+        if !give(alloc, arg, &mut given)? {
+            return Ok(None);
+        }
+    }
+    Ok(Some(given))
+}
+
+/// Puts an argument behind the others; false where it gives nothing.
+fn give(alloc: Global, arg: &Arg, given: &mut ArgList) -> Result<bool, OutOfMemory>
+    ensures { IfOk result (Adds (one_of (argument_given arg.now)) given.old given.new) }
+{
+    let Some(value) = value_given(alloc, &arg.value)? else {
+        return Ok(false)
     };
-    let Some(token) = given else { return Ok(false) };
-    items.push(token)?;
+    let name = arg.name.text.copy(alloc)?;
+    given.push(Argument { name, value })?;
     Ok(true)
 }
 
-/// The value of the first argument of a name.
-fn argument_named<'a>(args: &'a [Arg], name: &str) -> Option<&'a Value>
-    ensures { option_map (λ value. value.now) result ≡ argument_named args.now name.now }
+/// What a value gives; None where it gives nothing.
+fn value_given(alloc: Global, value: &Value) -> Result<Option<Given>, OutOfMemory>
+    ensures { IfOk result (λ found. found ≡ value_given value.now) }
 {
-    for arg in args {
-        if arg.name.text.as_str() == name {
-            return Some(&arg.value);
-        }
+    match value {
+        Value::Literal(literal) => match token_of(alloc, literal)? {
+            Some(token) => Ok(Some(Given::Token(token))),
+            None => Ok(None),
+        },
+        Value::Fraction(digits) => Ok(Some(Given::Fraction(digits.copy(alloc)?))),
+        Value::Name(_) => Ok(None),
     }
-    None
-}
-
-/// What a value gives to a parameter; None where it gives nothing that it takes.
-fn value_given(
-    alloc: Global,
-    parameter: Parameter,
-    value: &Value,
-) -> Result<Option<Token>, OutOfMemory>
-    ensures { IfOk result (λ found. found ≡ value_given parameter value.now) }
-{
-    let Value::Literal(literal) = value else {
-        return Ok(None)
-    };
-    let Some(token) = token_of(alloc, literal)? else {
-        return Ok(None)
-    };
-    if is_fit(&token) && parameter.accepts(&token) {
-        Ok(Some(token))
-    } else {
-        Ok(None)
-    }
-}
-
-/// Whether a token nests at most 16 deep and its text has at most 1,024 bytes.
-fn is_fit(token: &Token) -> bool
-    ensures { result ≡ is_fit token.now }
-{
-    fits(token)
 }

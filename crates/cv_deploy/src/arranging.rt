@@ -7,6 +7,7 @@ ghost use Rattle.std.specs.Ordering.{nat_cmp};
 ghost use Rattle.cv_deploy.specs.Lists.{all_given, one_of, are_apart};
 ghost use Rattle.cv_deploy.specs.Meaning.{consumer_key, producer_key, port_key, feeder_in, ports_from, inports_from, arranged};
 
+use cv_behave::Behave;
 use cv_kinds::{ActorSpec, Join};
 use cv_token::OutOfMemory;
 use std::alloc::Global;

@@ -1,5 +1,7 @@
+pub mod Arguments
 pub mod KindRow
 pub mod Names
 pub mod Net
-pub mod Parameters
+pub mod Sorts
+pub mod Table
 pub mod Wired

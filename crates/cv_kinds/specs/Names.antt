@@ -1,31 +1,34 @@
 -- The names of the kinds and of their ports.
-use Rattle.std.specs.Prelude.{ℕ, suc, List, [], ◌∷◌, Option, Some, None, codes, if◌then◌else◌}
+use Rattle.std.specs.Prelude.{ℕ, suc, List, [], ◌∷◌, Option, Some, None, if◌then◌else◌}
 use Rattle.std.specs.Str.{bytes_eq}
+use Rattle.cv_calc.specs.declared.kind.CalcKind.TheVariants as calc
+use Rattle.cv_flow.specs.declared.kind.FlowKind.TheVariants as flow
 use Rattle.cv_kinds.specs.declared.kind.Kind.{Kind}
-use Rattle.cv_kinds.specs.declared.kind.Kind.TheVariants.{Constant, Identity, Print}
+use Rattle.cv_kinds.specs.declared.kind.Kind.TheVariants as kind
+use Rattle.cv_kinds.specs.Table.{entry_of}
 
-abbrev pub name_of : Kind → List ℕ
-name_of Constant = codes "std.Constant"
-name_of Identity = codes "std.Identity"
-name_of Print = codes "io.Print"
+-- all kinds, in the order of the table
+abbrev pub all_kinds : List Kind
+all_kinds =
+    kind.Flow flow.Constant ∷ kind.Flow flow.Counter ∷ kind.Flow flow.CountTimer ∷ kind.Flow flow.Identity ∷
+    kind.Flow flow.Sequence ∷ kind.Flow flow.Trigger ∷ kind.Flow flow.Delay ∷ kind.Flow flow.Sum ∷
+    kind.Flow flow.Tally ∷ kind.Flow flow.Print ∷ kind.Flow flow.Terminator ∷ kind.Flow flow.Init ∷
+    kind.Flow flow.Join ∷ kind.Flow flow.Alternate2 ∷ kind.Flow flow.Alternate3 ∷ kind.Flow flow.Dealternate2 ∷
+    kind.Flow flow.Select ∷ kind.Flow flow.Switch ∷ kind.Flow flow.Batch ∷ kind.Flow flow.Unbatch ∷
+    kind.Flow flow.Take ∷ kind.Flow flow.Skip ∷ kind.Flow flow.Every ∷ kind.Flow flow.Valve ∷
+    kind.Flow flow.Zip ∷ kind.Flow flow.Unzip ∷ kind.Flow flow.Change ∷ kind.Calc calc.Add ∷
+    kind.Calc calc.Subtract ∷ kind.Calc calc.Multiply ∷ kind.Calc calc.Divide ∷ kind.Calc calc.Modulo ∷
+    kind.Calc calc.Compare ∷ kind.Calc calc.Concat ∷ kind.Calc calc.Length ∷ kind.Calc calc.Prefix ∷
+    kind.Calc calc.JsonText ∷ kind.Calc calc.JsonParse ∷ kind.Calc calc.JsonGet ∷ kind.Calc calc.Not ∷ []
+
+-- the first of these kinds that has the name
+abbrev pub first_named : List Kind → List ℕ → Option Kind
+first_named [] n = None
+first_named (k ∷ ks) n = if bytes_eq n (entry_of k).name then Some k else first_named ks n
 
 -- the kind of a name
-abbrev pub kind_named : List ℕ → Option Kind
-kind_named n =
-    if bytes_eq n (name_of Constant) then Some Constant
-    else if bytes_eq n (name_of Identity) then Some Identity
-    else if bytes_eq n (name_of Print) then Some Print
-    else None
-
-abbrev pub inport_names : Kind → List (List ℕ)
-inport_names Constant = []
-inport_names Identity = codes "token" ∷ []
-inport_names Print = codes "token" ∷ []
-
-abbrev pub outport_names : Kind → List (List ℕ)
-outport_names Constant = codes "token" ∷ []
-outport_names Identity = codes "token" ∷ []
-outport_names Print = []
+unfoldable pub kind_named : List ℕ → Option Kind
+kind_named n = first_named all_kinds n
 
 -- the place of a name in a list of names, from a first number on
 abbrev pub place_from : ℕ → List (List ℕ) → List ℕ → Option ℕ
@@ -33,7 +36,7 @@ place_from i [] n = None
 place_from i (m ∷ ms) n = if bytes_eq n m then Some i else place_from (suc i) ms n
 
 abbrev pub inport_named : Kind → List ℕ → Option ℕ
-inport_named k n = place_from 0 (inport_names k) n
+inport_named k n = place_from 0 (entry_of k).inports n
 
 abbrev pub outport_named : Kind → List ℕ → Option ℕ
-outport_named k n = place_from 0 (outport_names k) n
+outport_named k n = place_from 0 (entry_of k).outports n

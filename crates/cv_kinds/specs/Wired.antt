@@ -3,16 +3,16 @@ use Rattle.std.specs.Prelude.{◌≡◌, ℕ, ◌<◌, List, slice_get, Option, 
 use Rattle.cv_kinds.specs.declared.network.ActorSpec.{ActorSpec}
 use Rattle.cv_kinds.specs.declared.network.Join.{Join}
 use Rattle.cv_kinds.specs.Net.{Net}
-use Rattle.cv_kinds.specs.KindRow.{inport_count, outport_count}
+use Rattle.cv_kinds.specs.KindRow.{row_of}
 
 -- the actor is there and has an outport, or an inport, of that number
 abbrev pub HasOutport : Option ActorSpec → ℕ → Type 0
 HasOutport None port = ⊥
-HasOutport (Some a) port = port < outport_count a.kind
+HasOutport (Some a) port = port < (row_of a.kind).outports
 
 abbrev pub HasInport : Option ActorSpec → ℕ → Type 0
 HasInport None port = ⊥
-HasInport (Some a) port = port < inport_count a.kind
+HasInport (Some a) port = port < (row_of a.kind).inports
 
 -- without `one_reader` an outport may feed several connections
 pub record IsWired (net : Net) : Type 0 where

@@ -1,183 +1,155 @@
-//! The three kinds that are built, and the row of each: what an action needs, gives, asks and does.
+//! The kinds of actors: those of both families.
 
-ghost use Rattle.std.specs.Prelude.{◌≡◌, [], ◌∷◌, IfOk};
-ghost use Rattle.cv_kinds.specs.KindRow.{action_count, inport_count, outport_count, needed, given, guard_holds, effect_of, start_of, is_zero, fallen, item_of};
+ghost use Rattle.std.specs.Prelude.{◌≡◌, ◌≢◌, ◌≤◌, ◌↔◌, IsTrue, true};
+ghost use Rattle.cv_behave.specs.KindRow.{action_count, Deterministic};
+ghost use Rattle.cv_kinds.specs.KindRow.{row_of, is_print};
 
+use cv_behave::{Behave, Effect};
+use cv_calc::CalcKind;
+use cv_flow::FlowKind;
 use cv_token::{Items, OutOfMemory, Token};
 use std::alloc::Global;
 
-/// What an actor does. Each kind has one action, with number 0.
+/// What an actor does: a kind of one of the families. Its row is the family's.
 #[derive(Debug, Clone, Copy, PartialEq, Eq)]
 pub enum Kind {
-    /// `std.Constant(data, n)`: writes `data`, `n` times, or for ever where `n` is -1.
-    Constant,
-    /// `std.Identity()`: passes each token on.
-    Identity,
-    /// `io.Print()`: takes each token, which is printed at the end of the run.
-    Print,
+    /// A source, a sink, or what stands between them.
+    Flow(FlowKind),
+    /// A calculation.
+    Calc(CalcKind),
 }
 
-/// The tokens that a firing gives, one place per outport.
-pub type Outs = sqlite_items::Items<Option<Token>>;
+impl Behave for Kind {
+    ghost use Rattle.cv_kinds.specs.KindRow.{row_of};
 
-/// What a firing does: the state afterwards, and the tokens given.
-#[derive(Drop)]
-pub struct Effect {
-    pub state: Items,
-    pub out: Outs,
-}
+    ghost row = { λ k. row_of k };
 
-impl Kind {
-    /// How many actions the kind has.
-    pub fn actions(self) -> u8
-        ensures { result ≡ action_count self }
-    {
-        1
-    }
-
-    /// How many inports the kind has.
-    pub fn inports(self) -> u8
-        ensures { result ≡ inport_count self }
-    {
+    #[tactic(auto, unfolding(crate::specs::KindRow::row_of))]
+    fn actions(&self) -> u8 {
         match self {
-            Kind::Constant => 0,
-            Kind::Identity | Kind::Print => 1,
+            Kind::Flow(kind) => kind.actions(),
+            Kind::Calc(kind) => kind.actions(),
         }
     }
 
-    /// How many outports the kind has.
-    pub fn outports(self) -> u8
-        ensures { result ≡ outport_count self }
-    {
+    #[tactic(auto, unfolding(crate::specs::KindRow::row_of))]
+    fn inports(&self) -> u8 {
         match self {
-            Kind::Constant | Kind::Identity => 1,
-            Kind::Print => 0,
+            Kind::Flow(kind) => kind.inports(),
+            Kind::Calc(kind) => kind.inports(),
         }
     }
 
-    /// How many tokens of an inport the action needs.
-    pub fn needs(self, _args: &Items, action: u8, port: u8) -> u16
-        ensures { result ≡ needed self _args.now action port }
-    {
-        if action == 0 && port < self.inports() {
-            1
-        } else {
-            0
-        }
-    }
-
-    /// How many tokens the action gives to an outport: none or one.
-    pub fn gives(self, action: u8, port: u8) -> u16
-        ensures { result ≡ given self action port }
-    {
-        if action == 0 && port < self.outports() {
-            1
-        } else {
-            0
-        }
-    }
-
-    /// Whether the action's guard holds on the state.
-    pub fn guard(self, _args: &Items, state: &Items, _action: u8) -> bool
-        ensures { result ≡ guard_holds self _args.now state.now _action }
-    {
+    #[tactic(auto, unfolding(crate::specs::KindRow::row_of))]
+    fn outports(&self) -> u8 {
         match self {
-            Kind::Constant => !is_nothing_left(state),
-            Kind::Identity | Kind::Print => true,
+            Kind::Flow(kind) => kind.outports(),
+            Kind::Calc(kind) => kind.outports(),
         }
     }
 
-    /// What the action does on the tokens that it needs, port by port.
-    pub fn effect(
-        self,
+    #[tactic(auto, unfolding(crate::specs::KindRow::row_of))]
+    fn needs(&self, args: &Items, action: u8, port: u8) -> u16 {
+        match self {
+            Kind::Flow(kind) => kind.needs(args, action, port),
+            Kind::Calc(kind) => kind.needs(args, action, port),
+        }
+    }
+
+    #[tactic(auto, unfolding(crate::specs::KindRow::row_of))]
+    fn gives(&self, action: u8, port: u8) -> u16 {
+        match self {
+            Kind::Flow(kind) => kind.gives(action, port),
+            Kind::Calc(kind) => kind.gives(action, port),
+        }
+    }
+
+    #[tactic(auto, unfolding(crate::specs::KindRow::row_of))]
+    fn guard_port(&self) -> Option<u8> {
+        match self {
+            Kind::Flow(kind) => kind.guard_port(),
+            Kind::Calc(kind) => kind.guard_port(),
+        }
+    }
+
+    #[tactic(auto, unfolding(crate::specs::KindRow::row_of))]
+    fn guard(&self, args: &Items, state: &Items, action: u8, head: Option<&Token>) -> bool {
+        match self {
+            Kind::Flow(kind) => kind.guard(args, state, action, head),
+            Kind::Calc(kind) => kind.guard(args, state, action, head),
+        }
+    }
+
+    #[tactic(auto, unfolding(crate::specs::KindRow::row_of))]
+    fn effect(
+        &self,
         alloc: Global,
         args: &Items,
         state: &Items,
-        _action: u8,
+        action: u8,
         heads: &Items,
-    ) -> Result<Effect, OutOfMemory>
-        ensures { IfOk result (λ e. e ≡ effect_of self args.now state.now _action heads.now) }
-    {
+    ) -> Result<Effect, OutOfMemory> {
         match self {
-            Kind::Constant => {
-                let left = falling(alloc, state)?;
-                let data = copied(alloc, args, 0)?;
-                Ok(Effect {
-                    state: one_item(alloc, left)?,
-                    out: one_out(alloc, data)?,
-                })
-            }
-            Kind::Identity => {
-                let token = copied(alloc, heads, 0)?;
-                Ok(Effect {
-                    state: Items::new(alloc),
-                    out: one_out(alloc, token)?,
-                })
-            }
-            Kind::Print => Ok(Effect {
-                state: Items::new(alloc),
-                out: Outs::new(alloc),
-            }),
+            Kind::Flow(kind) => kind.effect(alloc, args, state, action, heads),
+            Kind::Calc(kind) => kind.effect(alloc, args, state, action, heads),
         }
     }
 
-    /// The state at the start.
-    pub fn start(self, alloc: Global, args: &Items) -> Result<Items, OutOfMemory>
-        ensures { IfOk result (λ state. state ≡ start_of self args.now) }
-    {
+    #[tactic(auto, unfolding(crate::specs::KindRow::row_of))]
+    fn start(&self, alloc: Global, args: &Items) -> Result<Items, OutOfMemory> {
         match self {
-            Kind::Constant => {
-                let left = copied(alloc, args, 1)?;
-                one_item(alloc, left)
-            }
-            Kind::Identity | Kind::Print => Ok(Items::new(alloc)),
+            Kind::Flow(kind) => kind.start(alloc, args),
+            Kind::Calc(kind) => kind.start(alloc, args),
+        }
+    }
+
+    #[tactic(auto, unfolding(crate::specs::KindRow::row_of))]
+    fn timed(&self, action: u8) -> bool {
+        match self {
+            Kind::Flow(kind) => kind.timed(action),
+            Kind::Calc(kind) => kind.timed(action),
+        }
+    }
+
+    #[tactic(auto, unfolding(crate::specs::KindRow::row_of))]
+    fn pause(&self, args: &Items) -> u64 {
+        match self {
+            Kind::Flow(kind) => kind.pause(args),
+            Kind::Calc(kind) => kind.pause(args),
         }
     }
 }
 
-/// Whether the first slot is the number 0.
-fn is_nothing_left(state: &Items) -> bool
-    ensures { result ≡ is_zero (item_of state.now 0) }
-{
-    match state.get(0) {
-        Some(Token::Int(left)) => *left == 0,
-        _ => false,
+impl Kind {
+    /// Whether the tokens that an actor of this kind takes are printed.
+    pub fn is_print(self) -> bool
+        ensures { result ≡ is_print self }
+    {
+        match self {
+            Kind::Flow(FlowKind::Print) => true,
+            _ => false,
+        }
     }
 }
 
-/// The first slot after a firing: a positive number falls by one.
-fn falling(alloc: Global, state: &Items) -> Result<Token, OutOfMemory>
-    ensures { IfOk result (λ t. t ≡ fallen (item_of state.now 0)) }
+/// How many actions the kind has: at most four.
+#[tactic(auto, using(crate::proofs::Promises::few_actions))]
+pub fn actions(kind: Kind) -> u8
+    ensures count { result ≡ action_count (row_of kind) }
+    ensures few { result ≤ 4 }
 {
-    match state.get(0) {
-        Some(Token::Int(left)) if *left > 0 => Ok(Token::Int(*left - 1)),
-        Some(token) => token.copy(alloc),
-        None => Ok(Token::Null),
+    kind.actions()
+}
+
+/// Whether for no arguments, state and inputs two actions of the kind are ready. All kinds are deterministic but
+/// `flow.Join` and `flow.Valve`.
+#[tactic(auto, unfolding(crate::specs::KindRow::row_of))]
+pub fn deterministic(kind: Kind) -> bool
+    ensures exact { IsTrue result ↔ Deterministic (row_of kind) }
+    ensures all_but_two { kind ≢ Kind.Flow FlowKind.Join → kind ≢ Kind.Flow FlowKind.Valve → result ≡ true }
+{
+    match kind {
+        Kind::Flow(kind) => kind.is_deterministic(),
+        Kind::Calc(_) => true,
     }
-}
-
-/// A token equal to the one at that place, or null where there is none.
-fn copied(alloc: Global, items: &Items, at: usize) -> Result<Token, OutOfMemory>
-    ensures { IfOk result (λ t. t ≡ item_of items.now at) }
-{
-    match items.get(at) {
-        Some(token) => token.copy(alloc),
-        None => Ok(Token::Null),
-    }
-}
-
-fn one_item(alloc: Global, token: Token) -> Result<Items, OutOfMemory>
-    ensures { IfOk result (λ items. items ≡ token ∷ []) }
-{
-    let mut items = Items::new(alloc);
-    items.push(token)?;
-    Ok(items)
-}
-
-fn one_out(alloc: Global, token: Token) -> Result<Outs, OutOfMemory>
-    ensures { IfOk result (λ items. items ≡ Some token ∷ []) }
-{
-    let mut out = Outs::new(alloc);
-    out.push(Some(token))?;
-    Ok(out)
 }

@@ -1,12 +1,18 @@
-//! The kinds of actors, each by its row, and the network that a script stands for.
+//! The kinds of actors, each by its row and its line of the table, and the network that a script stands for.
 #![tactic(auto)]
 
+pub mod arguments;
+mod duration;
 pub mod kind;
+pub mod laws;
 pub mod names;
 pub mod network;
-pub mod parameter;
+pub mod sorts;
+pub mod table;
 
-pub use kind::{Effect, Kind, Outs};
-pub use names::{find, inport, name, outport};
+pub use arguments::{ArgFault, ArgList, Argument, Given, check_args};
+pub use kind::{Kind, actions, deterministic};
+pub use names::{KINDS, find, inport, name, outport};
 pub use network::{ActorSpec, Join, Network};
-pub use parameter::{Parameter, parameters};
+pub use sorts::state_ok;
+pub use table::{Entry, Param, Preset, Slot, Sort};

@@ -4,7 +4,7 @@ use Rattle.cv_token.specs.declared.token.Token.{Token}
 use Rattle.cv_kinds.specs.declared.network.ActorSpec.{ActorSpec}
 use Rattle.cv_kinds.specs.declared.network.Join.{Join}
 use Rattle.cv_kinds.specs.Net.{Net}
-use Rattle.cv_kinds.specs.KindRow.{inport_count}
+use Rattle.cv_kinds.specs.KindRow.{row_of}
 use Rattle.cv_solo.specs.declared.stream.Stream.{Stream}
 use Rattle.cv_solo.specs.OneRuntime.{Runtime}
 use Rattle.cv_node.specs.LiveState.{LiveState}
@@ -16,7 +16,7 @@ as_live sp slots ins outs = record { kind = sp.kind; args = sp.args; slots = slo
 
 pub record Alike (sp : ActorSpec) (l : LiveState) (slots : List Token) : Type 0 where
   pub same : as_live sp slots l.ins l.outs ≡ l
-  pub inports : length l.ins ≡ inport_count sp.kind
+  pub inports : length l.ins ≡ (row_of sp.kind).inports
 
 -- the network's actor, the node's and the one runtime's slots, at one place
 abbrev pub AlikeAt : Option ActorSpec → Option LiveState → Option (List Token) → Type 0

@@ -7,7 +7,7 @@ use Rattle.cv_token.specs.declared.token.Token.{Token}
 use Rattle.cv_kinds.specs.declared.network.ActorSpec.{ActorSpec}
 use Rattle.cv_kinds.specs.declared.network.Join.{Join}
 use Rattle.cv_kinds.specs.Net.{Net}
-use Rattle.cv_kinds.specs.KindRow.{inport_count, outport_count, start_of}
+use Rattle.cv_kinds.specs.KindRow.{row_of}
 use Rattle.cv_solo.specs.OneRuntime.{opening}
 use Rattle.cv_node.specs.LiveState.{LiveState, starting}
 use Rattle.cv_node.specs.NodeRow.{is_joined, joined_from, starting_from}
@@ -18,7 +18,7 @@ use Rattle.cv_merge.proofs.Agree.{AlikeAt, Flow, Agrees}
 use Rattle.cv_merge.proofs.Firings.{flow_carry, alike_carry}
 
 abbrev start_at : List Join → ℕ → ActorSpec → LiveState
-start_at joins a sp = starting sp.kind sp.args (joined_from joins a 0 (outport_count sp.kind))
+start_at joins a sp = starting sp.kind sp.args (joined_from joins a 0 (row_of sp.kind).outports)
 
 started : (joins : List Join) (first : ℕ) (specs : List ActorSpec) (a : ℕ) → slice_get (starting_from joins first specs) a ≡ option_map (start_at joins (first + a)) (slice_get specs a)
 started joins first [] a = refl
@@ -28,17 +28,17 @@ started joins first (sp ∷ specs) (suc a) = let same : suc first + a ≡ first 
 pub starts : (net : Net) (a : ℕ) → slice_get (starting_from net.connections 0 net.actors) a ≡ option_map (start_at net.connections a) (slice_get net.actors a)
 starts net a = let same : 0 + a ≡ a = omega arith in started net.connections 0 net.actors a ∙ ap (λ (x : ℕ). option_map (start_at net.connections x) (slice_get net.actors a)) same
 
-alike_start : (joins : List Join) (a : ℕ) (sp : Option ActorSpec) → AlikeAt sp (option_map (start_at joins a) sp) (option_map (λ (x : ActorSpec). start_of x.kind x.args) sp)
+alike_start : (joins : List Join) (a : ℕ) (sp : Option ActorSpec) → AlikeAt sp (option_map (start_at joins a) sp) (option_map (λ (x : ActorSpec). (row_of x.kind).start x.args) sp)
 alike_start joins a None = tt
-alike_start joins a (Some sp) = record { same = refl; inports = length-replicate (inport_count sp.kind) [] }
+alike_start joins a (Some sp) = record { same = refl; inports = length-replicate (row_of sp.kind).inports [] }
 
 inlet_start : (joins : List Join) (a p : ℕ) (sp : Option ActorSpec) → HasInport sp p → inlet (option_map (start_at joins a) sp) p ≡ Some []
 inlet_start joins a p None has = absurd has
-inlet_start joins a p (Some sp) has = get_replicate_within (inport_count sp.kind) p [] has
+inlet_start joins a p (Some sp) has = get_replicate_within (row_of sp.kind).inports p [] has
 
 inlet_empty : (joins : List Join) (a p : ℕ) (sp : Option ActorSpec) (q : List Token) → inlet (option_map (start_at joins a) sp) p ≡ Some q → q ≡ []
 inlet_empty joins a p None q found = cc
-inlet_empty joins a p (Some sp) q found = sym (get_replicate (inport_count sp.kind) p [] q found)
+inlet_empty joins a p (Some sp) q found = sym (get_replicate (row_of sp.kind).inports p [] q found)
 
 joined_at : (joins : List Join) (a first count p : ℕ) → p < count → slice_get (joined_from joins a first count) p ≡ Some (is_joined joins a (first + p))
 joined_at joins a first zero p less = absurd (omega arith)
@@ -69,12 +69,12 @@ outlet_start joins a p None has joined = absurd has
 outlet_start joins a p (Some sp) has joined =
     let same : 0 + p ≡ p = omega arith in
     ap (λ (o : Option (Option (List Token))). unwrap_or o None)
-    (slice_get-map queue_if (joined_from joins a 0 (outport_count sp.kind)) p
-    ∙ ap (option_map queue_if) (joined_at joins a 0 (outport_count sp.kind) p has ∙ ap (λ (x : ℕ). Some (is_joined joins a x)) same ∙ ap (λ (b : Bool). Some b) joined))
+    (slice_get-map queue_if (joined_from joins a 0 (row_of sp.kind).outports) p
+    ∙ ap (option_map queue_if) (joined_at joins a 0 (row_of sp.kind).outports p has ∙ ap (λ (x : ℕ). Some (is_joined joins a x)) same ∙ ap (λ (b : Bool). Some b) joined))
 
 pub agrees_start : (net : Net) → IsWired net → Agrees net (starting_from net.connections 0 net.actors) (opening net) (λ c. [])
 agrees_start net wired = record {
-  alike = λ a. alike_carry _ _ _ _ _ _ refl (sym (starts net a)) (sym (slice_get-map (λ (x : ActorSpec). start_of x.kind x.args) net.actors a)) (alike_start net.connections a (slice_get net.actors a));
+  alike = λ a. alike_carry _ _ _ _ _ _ refl (sym (starts net a)) (sym (slice_get-map (λ (x : ActorSpec). (row_of x.kind).start x.args) net.actors a)) (alike_start net.connections a (slice_get net.actors a));
   flows = λ c j st at_join at_stream.
       let nothing : Flow (Some []) (Some []) (record { wrote = []; took = 0 }) [] = record { waits = refl; holds = refl; least = omega arith } in
       flow_carry _ _ _ _ _ _ []

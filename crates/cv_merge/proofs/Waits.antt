@@ -6,9 +6,8 @@ use borrow.Author.Tests.{leb-true, le-leb}
 use Rattle.std.proofs.Common.{◌≡◌, ℕ, zero, suc, ◌+◌, ◌≤◌, ◌==◌, nat_le, ◌&&◌, Bool, true, false, List, [], ◌∷◌, ◌++◌, length, take, drop, slice_get, Option, Some, None, refl, ap, sym, ◌∙◌, subst, arith, length-append, if◌then◌else◌}
 use Rattle.std.proofs.lemmas.List.{take-append-le, drop-append-le, append-nil}
 use Rattle.cv_token.specs.declared.token.Token.{Token}
-use Rattle.cv_kinds.specs.declared.kind.Kind.{Kind}
 use Rattle.cv_kinds.specs.declared.network.Join.{Join}
-use Rattle.cv_kinds.specs.KindRow.{needed, has_counts, heads_of}
+use Rattle.cv_behave.specs.KindRow.{Row, Grown, needed, has_counts, heads_of}
 use Rattle.cv_solo.specs.declared.stream.Stream.{Stream}
 use Rattle.cv_solo.specs.OneRuntime.{waiting, inputs_from}
 use Rattle.cv_merge.proofs.Agree.{Flow, Unfed}
@@ -66,37 +65,37 @@ each_waits js ss a port (q ∷ ins) at =
     (subst (λ (k : ℕ). Begins q (waiting js ss a k)) first (at 0 q refl), each_waits js ss a (suc port) ins (λ p x found. let next : port + suc p ≡ suc port + p = omega arith in subst (λ (k : ℕ). Begins x (waiting js ss a k)) next (at (suc p) x found)))
 
 -- more tokens behind those that are there change neither that the needed ones are there nor which they are
-pub record SameHeads (k : Kind) (args : List Token) (action port : ℕ) (ins inputs : List (List Token)) : Type 0 where
-  pub counts : has_counts k args action port inputs ≡ true
-  pub heads : heads_of k args action port inputs ≡ heads_of k args action port ins
+pub record SameHeads (row : Row) (args : List Token) (action port : ℕ) (ins inputs : List (List Token)) : Type 0 where
+  pub counts : has_counts row args action port inputs ≡ true
+  pub heads : heads_of row args action port inputs ≡ heads_of row args action port ins
 
-pub same_heads : (k : Kind) (args : List Token) (action port : ℕ) (ins inputs : List (List Token)) → EachBegins ins inputs → has_counts k args action port ins ≡ true → SameHeads k args action port ins inputs
-same_heads k args action port [] [] begins counts = record { counts = refl; heads = refl }
-same_heads k args action port [] (w ∷ ws) begins counts = absurd begins
-same_heads k args action port (q ∷ qs) [] begins counts = absurd begins
-same_heads k args action port (q ∷ qs) (w ∷ ws) begins counts =
-    let n = needed k args action port in
-    let here = and_parts (nat_le n (length q)) (has_counts k args action (suc port) qs) counts in
+pub same_heads : (row : Row) (args : List Token) (action port : ℕ) (ins inputs : List (List Token)) → EachBegins ins inputs → has_counts row args action port ins ≡ true → SameHeads row args action port ins inputs
+same_heads row args action port [] [] begins counts = record { counts = refl; heads = refl }
+same_heads row args action port [] (w ∷ ws) begins counts = absurd begins
+same_heads row args action port (q ∷ qs) [] begins counts = absurd begins
+same_heads row args action port (q ∷ qs) (w ∷ ws) begins counts =
+    let n = needed row args action port in
+    let here = and_parts (nat_le n (length q)) (has_counts row args action (suc port) qs) counts in
     let enough : n ≤ length q = leb-true n (length q) here.0 in
-    let below = same_heads k args action (suc port) qs ws begins.1 here.1 in
+    let below = same_heads row args action (suc port) qs ws begins.1 here.1 in
     let long : length q + length begins.0.0 ≡ length w = sym (length-append q begins.0.0) ∙ ap length begins.0.1 in
     let more : nat_le n (length w) ≡ true = le-leb n (length w) (omega (arith, long, enough)) in
     let same : take n w ≡ take n q = ap (take n) (sym begins.0.1) ∙ take-append-le n q begins.0.0 enough in
     record {
-      counts = ap (λ (b : Bool). b && has_counts k args action (suc port) ws) more ∙ below.counts;
-      heads = ap (λ x. x ++ heads_of k args action (suc port) ws) same ∙ ap (λ x. take n q ++ x) below.heads;
+      counts = ap (λ (b : Bool). b && has_counts row args action (suc port) ws) more ∙ below.counts;
+      heads = ap (λ x. x ++ heads_of row args action (suc port) ws) same ∙ ap (λ x. take n q ++ x) below.heads;
     }
 
 -- where the counts are there, each inport has its own
-pub counts_at : (k : Kind) (args : List Token) (action port : ℕ) (ins : List (List Token)) (p : ℕ) (q : List Token) → has_counts k args action port ins ≡ true → slice_get ins p ≡ Some q → needed k args action (port + p) ≤ length q
-counts_at k args action port [] p q counts found = cc
-counts_at k args action port (x ∷ ins) zero q counts found =
-    let here = and_parts (nat_le (needed k args action port) (length x)) (has_counts k args action (suc port) ins) counts in
+pub counts_at : (row : Row) (args : List Token) (action port : ℕ) (ins : List (List Token)) (p : ℕ) (q : List Token) → has_counts row args action port ins ≡ true → slice_get ins p ≡ Some q → needed row args action (port + p) ≤ length q
+counts_at row args action port [] p q counts found = cc
+counts_at row args action port (x ∷ ins) zero q counts found =
+    let here = and_parts (nat_le (needed row args action port) (length x)) (has_counts row args action (suc port) ins) counts in
     let same : x ≡ q = cc in
-    let enough : needed k args action port ≤ length x = leb-true (needed k args action port) (length x) here.0 in
+    let enough : needed row args action port ≤ length x = leb-true (needed row args action port) (length x) here.0 in
     let first : port ≡ port + 0 = omega arith in
-    subst (λ (i : ℕ). needed k args action i ≤ length q) first (subst (λ (y : List Token). needed k args action port ≤ length y) same enough)
-counts_at k args action port (x ∷ ins) (suc p) q counts found =
-    let here = and_parts (nat_le (needed k args action port) (length x)) (has_counts k args action (suc port) ins) counts in
+    subst (λ (i : ℕ). needed row args action i ≤ length q) first (subst (λ (y : List Token). needed row args action port ≤ length y) same enough)
+counts_at row args action port (x ∷ ins) (suc p) q counts found =
+    let here = and_parts (nat_le (needed row args action port) (length x)) (has_counts row args action (suc port) ins) counts in
     let next : suc port + p ≡ port + suc p = omega arith in
-    subst (λ (i : ℕ). needed k args action i ≤ length q) next (counts_at k args action (suc port) ins p q here.1 found)
+    subst (λ (i : ℕ). needed row args action i ≤ length q) next (counts_at row args action (suc port) ins p q here.1 found)

@@ -14,7 +14,7 @@ use Rattle.cv_node.specs.declared.event.Event.{Event}
 use Rattle.cv_node.specs.LiveState.{LiveState, can_fire}
 use Rattle.cv_node.specs.NodeRow.{NodeState, pass_at, fire_at, passed, fire_if, token_for, room_for}
 use Rattle.cv_node.specs.Journal.{Journalled, Steps, conn_id}
-use Rattle.cv_node.specs.Runs.{Extends, GoesOn, Quiet, NonePasses, NoneFires, is_firing, firing_count}
+use Rattle.cv_node.specs.Runs.{Extends, GoesOn, Quiet, NoneOf, NonePasses, NoneFires, is_firing, firing_count}
 
 pub goes_on_self : (j : Journalled) → GoesOn j j 0
 goes_on_self j = record { extends = record { kept = take-length j.entries }; firings = sym (add-zero (firing_count j.entries)) }
@@ -83,7 +83,7 @@ pub record FiresSoFar (start now : Journalled) (fired most place : ℕ) : Type 0
   pub none : fired ≡ 0 → (now ≡ start) × NoneFires start.state place
   pub more : length start.entries + fired ≤ length now.entries
 
-pub fires_next : (start now next : Journalled) (fired more most place : ℕ) → 0 < most → FiresSoFar start now fired most place → (more ≤ most - fired) × (more ≤ 1) × GoesOn now next more → (more ≡ 0 → (next ≡ now) × (0 < most - fired → fire_at now.state.actors place 0 ≡ None)) → length now.entries + more ≤ length next.entries → FiresSoFar start next (fired + more) most (place + 1)
+pub fires_next : (start now next : Journalled) (fired more most place : ℕ) → 0 < most → FiresSoFar start now fired most place → (more ≤ most - fired) × (more ≤ 1) × GoesOn now next more → (more ≡ 0 → (next ≡ now) × (0 < most - fired → NoneOf now.state place)) → length now.entries + more ≤ length next.entries → FiresSoFar start next (fired + more) most (place + 1)
 fires_next start now next fired more most place some before step none longer = record {
   within = omega (arith, step.0, before.within);
   goes_on = goes_on_step start now next fired more before.goes_on step.2;
@@ -91,8 +91,9 @@ fires_next start now next fired more most place some before step none longer = r
       let unchanged : now ≡ start = (before.none (omega (arith, h))).0 in
       let stays = none (omega (arith, h)) in
       let left : 0 < most - fired = omega (arith, h) in
-      let here = subst (λ (j : Journalled). fire_at j.state.actors place 0 ≡ None) unchanged (stays.1 left) in
-      (stays.0 ∙ unchanged, record { none = below_more (λ k. fire_at start.state.actors k 0 ≡ None) place (before.none (omega (arith, h))).1.none here });
+      let here = subst (λ (j : Journalled). NoneOf j.state place) unchanged (stays.1 left) in
+      let all : (k : ℕ) → k < place + 1 → (action : ℕ) → fire_at start.state.actors k action ≡ None = below_more (λ k. (action : ℕ) → fire_at start.state.actors k action ≡ None) place (λ k l action. (before.none (omega (arith, h))).1.none k action l) here.none in
+      (stays.0 ∙ unchanged, record { none = λ k action l. all k l action });
   more = omega (arith, before.more);
 }
 
@@ -105,16 +106,11 @@ not_passed actors j None room none = inl refl
 not_passed actors j (Some t) false none = inr refl
 not_passed actors j (Some t) true none = cc
 
--- an actor whose first action can't fire has no action that can
-no_action_fires : (l : LiveState) (action : ℕ) → can_fire l 0 ≡ false → can_fire l action ≡ false
-no_action_fires l zero first = first
-no_action_fires l (suc n) first = grind (arith, nat_tests, common_steps)
-
 pub quiet_from_none : (s : NodeState) → NonePasses s (length s.connections) → NoneFires s (length s.actors) → Quiet s
 quiet_from_none s passes fires = record {
   no_action = λ place action l found.
-      let none = rw found at (fires.none place (slice_get_within s.actors place l found)) in
-      no_action_fires l action (not_fired s.actors place 0 l (can_fire l 0) none);
+      let none = rw found at (fires.none place action (slice_get_within s.actors place l found)) in
+      not_fired s.actors place action l (can_fire l action) none;
   settled = λ place j found.
       let none = rw found at (passes.none place (slice_get_within s.connections place j found)) in
       not_passed s.actors j (token_for s.actors j) (room_for s.actors j) none;

@@ -2,7 +2,8 @@
 use Rattle.std.specs.Prelude.{◌≡◌, ℕ, suc, ◌+◌, Bool, true, false, ◌&&◌, nat_le, nat_lt, if◌then◌else◌, map, replicate, slice_get, slice_set, unwrap_or, option_map, option_and_then, List, [], ◌∷◌, ◌++◌, length, drop, Option, Some, None, option_to_list}
 use Rattle.cv_token.specs.declared.token.Token.{Token}
 use Rattle.cv_kinds.specs.declared.kind.Kind.{Kind}
-use Rattle.cv_kinds.specs.KindRow.{needed, given, heads_of, is_ready, effect_of, inport_count, outport_count, start_of}
+use Rattle.cv_behave.specs.KindRow.{Row, needed, given, heads_of, is_ready, effect_of}
+use Rattle.cv_kinds.specs.KindRow.{row_of}
 use Rattle.std.specs.Option.{option_map_or}
 
 -- an actor: its kind and arguments, its slots, the tokens in its inports, and those in its outports,
@@ -24,18 +25,18 @@ takes_more None more = true
 takes_more (Some q) more = nat_le (length q + more) queue_length
 
 -- each outport that is given a token has room for it, for the outports from number `port` on
-abbrev pub has_space : Kind → ℕ → ℕ → List (Option (List Token)) → Bool
-has_space k action port [] = true
-has_space k action port (o ∷ outs) = takes_more o (given k action port) && has_space k action (suc port) outs
+abbrev pub has_space : Row → ℕ → ℕ → List (Option (List Token)) → Bool
+has_space row action port [] = true
+has_space row action port (o ∷ outs) = takes_more o (given row action port) && has_space row action (suc port) outs
 
 -- tokens, guard and space are there
 abbrev pub can_fire : LiveState → ℕ → Bool
-can_fire l action = is_ready l.kind l.args l.slots action l.ins && has_space l.kind action 0 l.outs
+can_fire l action = is_ready (row_of l.kind) l.args l.slots action l.ins && has_space (row_of l.kind) action 0 l.outs
 
 -- the inports without the tokens that the action takes
-abbrev pub without_heads : Kind → List Token → ℕ → ℕ → List (List Token) → List (List Token)
-without_heads k args action port [] = []
-without_heads k args action port (q ∷ qs) = drop (needed k args action port) q ∷ without_heads k args action (suc port) qs
+abbrev pub without_heads : Row → List Token → ℕ → ℕ → List (List Token) → List (List Token)
+without_heads row args action port [] = []
+without_heads row args action port (q ∷ qs) = drop (needed row args action port) q ∷ without_heads row args action (suc port) qs
 
 -- the token given to the first of the outports that are left
 abbrev pub first_given : List (Option Token) → Option Token
@@ -54,16 +55,16 @@ with_given out (o ∷ outs) = with_more o (first_given out) ∷ with_given (drop
 
 abbrev pub fired : LiveState → ℕ → LiveState
 fired l action =
-    let effect = effect_of l.kind l.args l.slots action (heads_of l.kind l.args action 0 l.ins) in record l {
+    let effect = effect_of (row_of l.kind) l.args l.slots action (heads_of (row_of l.kind) l.args action 0 l.ins) in record l {
       slots = effect.state;
-      ins = without_heads l.kind l.args action 0 l.ins;
+      ins = without_heads (row_of l.kind) l.args action 0 l.ins;
       outs = with_given effect.out l.outs;
     }
 
 -- an actor has the ports of its kind
 pub record IsShaped (k : Kind) (ins outs : ℕ) : Type 0 where
-  pub inports : ins ≡ inport_count k
-  pub outports : outs ≡ outport_count k
+  pub inports : ins ≡ (row_of k).inports
+  pub outports : outs ≡ (row_of k).outports
 
 -- the oldest token in an outport
 abbrev pub first_held : Option (List Token) → Option Token
@@ -89,7 +90,7 @@ abbrev pub starting : Kind → List Token → List Bool → LiveState
 starting k args joined = record {
   kind = k;
   args = args;
-  slots = start_of k args;
-  ins = replicate (inport_count k) [];
+  slots = (row_of k).start args;
+  ins = replicate (row_of k).inports [];
   outs = map (λ j. if j then Some [] else None) joined;
 }

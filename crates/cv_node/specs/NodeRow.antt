@@ -7,7 +7,8 @@ use Rattle.cv_token.specs.declared.identifiers.AppId.{AppId}
 use Rattle.cv_kinds.specs.declared.network.ActorSpec.{ActorSpec}
 use Rattle.cv_kinds.specs.declared.network.Join.{Join}
 use Rattle.cv_kinds.specs.Net.{Net}
-use Rattle.cv_kinds.specs.KindRow.{outport_count}
+use Rattle.cv_behave.specs.KindRow.{action_count}
+use Rattle.cv_kinds.specs.KindRow.{row_of}
 use Rattle.cv_node.specs.declared.event.Entry.{Entry}
 use Rattle.cv_node.specs.declared.event.Event.{Event}
 use Rattle.cv_node.specs.declared.event.Event.TheVariants as event
@@ -40,7 +41,7 @@ joined_from joins actor port (suc count) = is_joined joins actor port ∷ joined
 -- the actors at the start, for the actors from number `actor` on
 abbrev pub starting_from : List Join → ℕ → List ActorSpec → List LiveState
 starting_from joins actor [] = []
-starting_from joins actor (a ∷ rest) = starting a.kind a.args (joined_from joins actor 0 (outport_count a.kind)) ∷ starting_from joins (suc actor) rest
+starting_from joins actor (a ∷ rest) = starting a.kind a.args (joined_from joins actor 0 (row_of a.kind).outports) ∷ starting_from joins (suc actor) rest
 
 -- the list with the element at a place changed, where there is one
 abbrev pub change_to : List LiveState → ℕ → (LiveState → LiveState) → Option LiveState → List LiveState
@@ -77,6 +78,10 @@ fire_if actors place l action true = Some (slice_set actors place (fired l actio
 
 abbrev pub fire_at : List LiveState → ℕ → ℕ → Option (List LiveState)
 fire_at actors place action = option_and_then (λ l. fire_if actors place l action (can_fire l action)) (slice_get actors place)
+
+-- how many actions the actor at a place has; none where there is no such actor
+abbrev pub actions_at : List LiveState → ℕ → ℕ
+actions_at actors place = option_map_or (λ l. action_count (row_of l.kind)) (slice_get actors place) 0
 
 abbrev pub with_actors : NodeState → Option (List LiveState) → Option NodeState
 with_actors s None = None

@@ -26,6 +26,14 @@ pub record GoesOn (old new : Journalled) (fired : ℕ) : Type 0 where
   pub extends : Extends old.entries new.entries
   pub firings : firing_count new.entries ≡ firing_count old.entries + fired
 
+-- the first action of an actor that can fire: those before it can't
+pub record IsFirst (s : NodeState) (place action : ℕ) : Type 0 where
+  pub earlier : (before : ℕ) → before < action → fire_at s.actors place before ≡ None
+
+-- no action of the actor at a place can fire
+pub record NoneOf (s : NodeState) (place : ℕ) : Type 0 where
+  pub none : (action : ℕ) → fire_at s.actors place action ≡ None
+
 -- no live actor has an action with tokens, guard and space, and each connection is settled: its outport is empty,
 -- or its inport is full
 pub record Quiet (s : NodeState) : Type 0 where
@@ -36,6 +44,6 @@ pub record Quiet (s : NodeState) : Type 0 where
 pub record NonePasses (s : NodeState) (below : ℕ) : Type 0 where
   pub none : (place : ℕ) → place < below → pass_at s.connections s.actors place ≡ None
 
--- no actor below a place can fire its first action
+-- no actor below a place has an action that can fire
 pub record NoneFires (s : NodeState) (below : ℕ) : Type 0 where
-  pub none : (place : ℕ) → place < below → fire_at s.actors place 0 ≡ None
+  pub none : (place action : ℕ) → place < below → fire_at s.actors place action ≡ None

@@ -3,10 +3,13 @@
 ghost use Rattle.std.specs.Prelude.{◌≡◌, ◌<◌, [], length, drop, map, option_map, replicate, if◌then◌else◌, option_to_list, is_some, IsSome, IfOk, OnOk, OnErr, true};
 ghost use Rattle.cv_node.specs.LiveState.{can_fire, fired, has_space, takes_more, without_heads, with_given, with_more, first_given, first_held, first_out, has_room_at, sent, received, starting};
 ghost use Rattle.cv_node.specs.Room.{has_room_for};
-ghost use Rattle.cv_kinds.specs.KindRow.{has_counts, heads_of, outport_count};
+ghost use Rattle.std.specs.Option.{option_copied};
+ghost use Rattle.cv_behave.specs.KindRow.{action_count, has_counts, head_at, heads_of};
+ghost use Rattle.cv_kinds.specs.KindRow.{row_of};
 
 use crate::queue::{QUEUE_LENGTH, Queue};
-use cv_kinds::{Effect, Kind, Outs};
+use cv_behave::{Behave, Effect, Outs};
+use cv_kinds::Kind;
 use cv_token::{Items, OutOfMemory, Token};
 use std::alloc::Global;
 use std::marker::Model;
@@ -41,9 +44,9 @@ impl Live {
     pub fn can_fire(&self, action: u8) -> bool
         ensures { result ≡ can_fire self.now action }
     {
-        action < self.kind.actions()
-            && holds_counts(self.kind, &self.args, action, self.ins.as_slice())
-            && self.kind.guard(&self.args, &self.slots, action)
+        let head = guard_head(self.kind, self.ins.as_slice());
+        holds_counts(self.kind, &self.args, action, self.ins.as_slice())
+            && self.kind.guard(&self.args, &self.slots, action, head)
             && holds_space(self.kind, action, self.outs.as_slice())
     }
 
@@ -66,6 +69,13 @@ impl Live {
 }
 
 impl Live {
+    /// How many actions the actor has.
+    pub fn actions(&self) -> u8
+        ensures { result ≡ action_count (row_of self.now.kind) }
+    {
+        self.kind.actions()
+    }
+
     /// An actor at the start, with an empty queue in each inport and in each outport that feeds something.
     pub fn starting(
         alloc: Global,
@@ -73,7 +83,7 @@ impl Live {
         args: Items,
         joined: &[bool],
     ) -> Result<Live, OutOfMemory>
-        requires { length joined.now ≡ outport_count kind }
+        requires { length joined.now ≡ (row_of kind).outports }
         ensures { IfOk result (λ l. l ≡ starting kind args joined.now) }
     {
         let slots = kind.start(alloc, &args)?;
@@ -166,7 +176,7 @@ fn empty_outlets(alloc: Global, joined: &[bool]) -> Result<Vec<Option<Queue>>, O
 /// Whether each needed inport has its count.
 fn holds_counts(kind: Kind, args: &Items, action: u8, ins: &[Queue]) -> bool
     requires { length ins.now < 256 }
-    ensures { result ≡ has_counts kind args.now action 0 ins.now }
+    ensures { result ≡ has_counts (row_of kind) args.now action 0 ins.now }
 {
     for (port, queue) in ins.iter().enumerate() {
         if queue.len() < kind.needs(args, action, port as u8) as usize {
@@ -176,10 +186,18 @@ fn holds_counts(kind: Kind, args: &Items, action: u8, ins: &[Queue]) -> bool
     true
 }
 
+/// The first token in the inport at which the kind's guards look.
+fn guard_head(kind: Kind, ins: &[Queue]) -> Option<&Token>
+    ensures { option_copied result ≡ head_at (row_of kind).guard_port ins.now }
+{
+    let port = kind.guard_port()?;
+    ins.get(port as usize)?.first()
+}
+
 /// Whether each outport that is given a token has room for it.
 fn holds_space(kind: Kind, action: u8, outs: &[Option<Queue>]) -> bool
     requires { length outs.now < 256 }
-    ensures { result ≡ has_space kind action 0 outs.now }
+    ensures { result ≡ has_space (row_of kind) action 0 outs.now }
 {
     for (port, outlet) in outs.iter().enumerate() {
         if !has_room(outlet, kind.gives(action, port as u8)) {
@@ -208,8 +226,8 @@ fn copied_heads(
     ins: &[Queue],
 ) -> Result<Items, OutOfMemory>
     requires few { length ins.now < 256 }
-    requires counts { has_counts kind args.now action 0 ins.now ≡ true }
-    ensures { IfOk result (λ heads. heads ≡ heads_of kind args.now action 0 ins.now) }
+    requires counts { has_counts (row_of kind) args.now action 0 ins.now ≡ true }
+    ensures { IfOk result (λ heads. heads ≡ heads_of (row_of kind) args.now action 0 ins.now) }
 {
     let mut heads = Items::new(alloc);
     for (port, queue) in ins.iter().enumerate() {
@@ -221,8 +239,8 @@ fn copied_heads(
 /// Drops the tokens that the action takes.
 fn drop_heads(kind: Kind, args: &Items, action: u8, ins: &mut [Queue])
     requires few { length ins.old < 256 }
-    requires counts { has_counts kind args.now action 0 ins.old ≡ true }
-    ensures { ins.new ≡ without_heads kind args.now action 0 ins.old }
+    requires counts { has_counts (row_of kind) args.now action 0 ins.old ≡ true }
+    ensures { ins.new ≡ without_heads (row_of kind) args.now action 0 ins.old }
 {
     for port in 0..ins.len() {
         ins[port].drop_first(kind.needs(args, action, port as u8));

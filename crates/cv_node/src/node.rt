@@ -1,11 +1,13 @@
 //! A node with one application: its live actors, and the journal of what happened to them.
 
-ghost use Rattle.std.specs.Prelude.{◌≡◌, ◌<◌, ◌≤◌, ◌+◌, ◌^◌, [], ◌∷◌, ◌++◌, None, Some, length, slice_get, is_some, vec_len, vec_capacity, MatchBool, IfOk, OnOk, OnErr, Ok, false};
-ghost use Rattle.cv_node.specs.NodeRow.{opening, replay, pass_at, fire_at, token_for, room_for, is_joined, joined_from, starting_from};
+ghost use Rattle.std.specs.Prelude.{◌≡◌, ◌<◌, ◌≤◌, ◌+◌, ◌^◌, [], ◌∷◌, ◌++◌, None, Some, length, slice_get, is_some, vec_len, vec_capacity, MatchBool, MatchOption, IfOk, OnOk, OnErr, Ok, false};
+ghost use Rattle.cv_node.specs.NodeRow.{opening, replay, actions_at, pass_at, fire_at, token_for, room_for, is_joined, joined_from, starting_from};
 ghost use Rattle.cv_node.specs.Journal.{Journalled, Steps, Becomes, actor_id, conn_id};
+ghost use Rattle.cv_node.specs.Runs.{IsFirst, NoneOf};
 
 use crate::event::{Entry, Event};
 use crate::live::Live;
+use cv_behave::Behave;
 use cv_kinds::{ActorSpec, Join, Network};
 use cv_token::{ActorId, AppId, ConnId, OutOfMemory, Text, copy_items};
 use std::alloc::{AllocError, Global};
@@ -123,6 +125,33 @@ impl Node {
         };
         append(&mut self.stamp, &mut self.entries, event);
         Ok(true)
+    }
+}
+
+impl Node {
+    /// Fires the first action of the actor at that place that can fire, in the order of priority; None where none can,
+    /// and then nothing changed.
+    pub fn fire_first(&mut self, alloc: Global, place: u16) -> Result<Option<u8>, OutOfMemory>
+        ensures fired { IfOk result (λ done. MatchOption done ((self.new ≡ self.old) × NoneOf self.old.state place) (λ action. Steps self.old (Event.Fire (actor_id place) action) self.new × IsFirst self.old.state place action)) }
+        ensures few { length self.old.entries ≤ 2 ^ 30 → length self.new.entries ≤ 2 ^ 30 }
+        ensures err { OnErr result (self.new ≡ self.old) }
+    {
+        for action in 0..self.actions_at(place) {
+            if self.fire(alloc, place, action)? {
+                return Ok(Some(action));
+            }
+        }
+        Ok(None)
+    }
+
+    /// How many actions the actor at that place has; none where there is no such actor.
+    fn actions_at(&self, place: u16) -> u8
+        ensures { result ≡ actions_at self.now.state.actors place }
+    {
+        match self.actors.get(place as usize) {
+            Some(actor) => actor.actions(),
+            None => 0,
+        }
     }
 }
 

@@ -1,6 +1,7 @@
 //! The queue of a port: at most four tokens, for which the room is made at once.
 
-ghost use Rattle.std.specs.Prelude.{◌≡◌, ◌<◌, ◌≤◌, [], ◌∷◌, ◌++◌, length, take, drop, IfOk, OnOk, OnErr};
+ghost use Rattle.std.specs.Prelude.{◌≡◌, ◌<◌, ◌≤◌, [], ◌∷◌, ◌++◌, length, take, drop, slice_get, IfOk, OnOk, OnErr};
+ghost use Rattle.std.specs.Option.{option_copied};
 
 use cv_token::{Items, OutOfMemory, Token};
 use std::alloc::Global;
@@ -45,6 +46,13 @@ impl Queue {
         ensures within { result ≤ 4 }
     {
         self.held.len()
+    }
+
+    /// The oldest token.
+    pub fn first(&self) -> Option<&Token>
+        ensures { option_copied result ≡ slice_get self.now 0 }
+    {
+        self.held.first()
     }
 
     /// Adds a token at the end; it takes no memory.

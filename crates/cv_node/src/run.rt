@@ -1,8 +1,7 @@
 //! A run of one node: tokens pass and actions fire until enough firings were made or nothing can happen.
 
 ghost use Rattle.std.specs.Prelude.{◌≡◌, ℕ, ◌+◌, ◌<◌, ◌≤◌, ◌^◌, length, IfOk, None, Ok, true, false};
-ghost use Rattle.cv_node.specs.Runs.{GoesOn, Quiet, NonePasses, NoneFires};
-ghost use Rattle.cv_node.specs.NodeRow.{fire_at};
+ghost use Rattle.cv_node.specs.Runs.{GoesOn, Quiet, NoneOf, NonePasses, NoneFires};
 
 use crate::node::Node;
 use cv_token::OutOfMemory;
@@ -50,7 +49,7 @@ impl Node {
         Ok(passed)
     }
 
-    /// Fires the first action of each actor where it can fire, `most` at most, and tells how many fired.
+    /// Fires of each actor the first action that can fire, `most` at most, and tells how many fired.
     fn fire_all(&mut self, alloc: Global, most: u32) -> Result<u32, OutOfMemory>
         requires { 0 < most }
         ensures ok { IfOk result (λ fired. (fired ≤ most) × GoesOn self.old self.new fired) }
@@ -65,17 +64,17 @@ impl Node {
         Ok(fired)
     }
 
-    /// Fires the first action of an actor where it can fire and one more firing is allowed; how many fired.
+    /// Fires the first action of an actor that can fire, where one more firing is allowed; how many fired.
     fn fire_within(&mut self, alloc: Global, place: u16, left: u32) -> Result<u32, OutOfMemory>
         ensures ok { IfOk result (λ fired. (fired ≤ left) × (fired ≤ 1) × GoesOn self.old self.new fired) }
-        ensures none { result ≡ Ok 0 → (self.new ≡ self.old) × (0 < left → fire_at self.old.state.actors place 0 ≡ None) }
+        ensures none { result ≡ Ok 0 → (self.new ≡ self.old) × (0 < left → NoneOf self.old.state place) }
         ensures more { IfOk result (λ fired. length self.old.entries + fired ≤ length self.new.entries) }
         ensures few { length self.old.entries ≤ 2 ^ 30 → length self.new.entries ≤ 2 ^ 30 }
     {
         if left == 0 {
             return Ok(0);
         }
-        let fires = self.fire(alloc, place, 0)?;
-        Ok(u32::from(fires))
+        let fired = self.fire_first(alloc, place)?;
+        Ok(u32::from(fired.is_some()))
     }
 }

@@ -62,7 +62,7 @@ mod tests {
         text: &'static str,
     }
 
-    const ROWS: [Row; 18] = [
+    const ROWS: [Row; 23] = [
         Row {
             words: &["run"],
             script: CONSTANT,
@@ -136,6 +136,38 @@ mod tests {
             script: "src : std.Constant(data=null)\nmid : std.Identity(dump=true)\nsnk : io.Print()\nsrc.token > mid.token\nmid.token > snk.token\n",
             status: 0,
             text: "snk null\nfirings 3\nend quiescent\n",
+        },
+        // Kinds of both families: a source in time, batches, sums past 64 bits, division towards zero, and a join, in whose
+        // actions the first inport comes first.
+        Row {
+            words: &["run"],
+            script: "src : std.CountTimer(sleep=0.1, steps=5)\nmid : std.Identity()\nsnk : io.Print()\nsrc.integer > mid.token\nmid.token > snk.token\n",
+            status: 0,
+            text: "snk 1\nsnk 2\nsnk 3\nsnk 4\nsnk 5\nfirings 15\nend quiescent\n",
+        },
+        Row {
+            words: &["run"],
+            script: "src : std.Sequence(data=[1,2,3,4,5,6,7,8,9])\nbat : flow.Batch(n=4)\nsnk : io.Print()\nsrc.token > bat.token\nbat.list > snk.token\n",
+            status: 0,
+            text: "snk [1,2,3,4]\nsnk [5,6,7,8]\nfirings 13\nend quiescent\n",
+        },
+        Row {
+            words: &["run"],
+            script: "src : std.Sequence(data=[9223372036854775807, 1])\nsum : std.Sum()\nsnk : io.Print()\nsrc.token > sum.integer\nsum.integer > snk.token\n",
+            status: 0,
+            text: "snk 9223372036854775807\nsnk null\nfirings 6\nend quiescent\n",
+        },
+        Row {
+            words: &["run"],
+            script: "a:std.Sequence(data=[-7])b:std.Constant(data=2)d:math.Divide()q:io.Print()a.token>d.a b.token>d.b d.result>q.token x:std.Sequence(data=[-7])y:std.Constant(data=2)m:math.Modulo()r:io.Print()x.token>m.a y.token>m.b m.result>r.token",
+            status: 0,
+            text: "q -3\nr -1\nfirings 8\nend quiescent\n",
+        },
+        Row {
+            words: &["run"],
+            script: "a:std.Sequence(data=[1,2])b:std.Sequence(data=[3])j:flow.Join()p:io.Print()a.token>j.token_1 b.token>j.token_2 j.token>p.token",
+            status: 0,
+            text: "p 1\np 2\np 3\nfirings 9\nend quiescent\n",
         },
         Row {
             words: &["run", "--nodes", "2"],

@@ -1,11 +1,12 @@
 -- One runtime that fires actions one after the other: unbounded lists, no space, no priority, no time.
 use Rattle.std.specs.Prelude.{◌≡◌, ℕ, zero, suc, ◌+◌, ◌-◌, min, length, Bool, true, false, ◌==◌, ◌&&◌, if◌then◌else◌, List, [], ◌∷◌, ◌++◌, drop, map, replicate, slice_get, slice_set, unwrap_or, Option, Some, None, option_and_then}
 use Rattle.cv_token.specs.declared.token.Token.{Token}
-use Rattle.cv_kinds.specs.declared.kind.Effect.{Effect}
+use Rattle.cv_behave.specs.declared.behave.Effect.{Effect}
+use Rattle.cv_behave.specs.KindRow.{needed, given_at, heads_of, is_ready, effect_of}
 use Rattle.cv_kinds.specs.declared.network.ActorSpec.{ActorSpec}
 use Rattle.cv_kinds.specs.declared.network.Join.{Join}
 use Rattle.cv_kinds.specs.Net.{Net}
-use Rattle.cv_kinds.specs.KindRow.{inport_count, needed, given_at, heads_of, is_ready, effect_of, start_of}
+use Rattle.cv_kinds.specs.KindRow.{row_of}
 use Rattle.cv_solo.specs.declared.stream.Stream.{Stream}
 
 -- the slots of each actor, and of each connection what was ever written to it and how much of that was taken
@@ -16,7 +17,7 @@ pub record Runtime : Type 0 where
 -- before the first firing: the slots of the rows, nothing written, nothing taken
 abbrev pub opening : Net → Runtime
 opening net = record {
-  slots = map (λ a. start_of a.kind a.args) net.actors;
+  slots = map (λ a. (row_of a.kind).start a.args) net.actors;
   streams = replicate (length net.connections) (record { wrote = []; took = 0 });
 }
 
@@ -34,7 +35,7 @@ inputs_from joins streams actor port (suc count) = waiting joins streams actor p
 -- a connection after a firing of an actor: of the tokens that wait at its inport those needed are taken, and the token
 -- given to its outport is written
 abbrev pub taken_on : ActorSpec → ℕ → ℕ → Join → Stream → ℕ
-taken_on spec actor action j s = if j.to == actor then min (needed spec.kind spec.args action j.inp) (length s.wrote - s.took) else 0
+taken_on spec actor action j s = if j.to == actor then min (needed (row_of spec.kind) spec.args action j.inp) (length s.wrote - s.took) else 0
 
 abbrev pub given_on : List (Option Token) → ℕ → Join → List Token
 given_on out actor j = if j.from == actor then given_at out j.out else []
@@ -49,13 +50,13 @@ streams_after spec actor action out (j ∷ js) (s ∷ ss) = stream_after spec ac
 
 -- a firing is allowed where its action is ready on the slots and on what waits at the inports
 abbrev pub inputs_of : ActorSpec → List Join → List Stream → ℕ → List (List Token)
-inputs_of spec joins streams actor = inputs_from joins streams actor 0 (inport_count spec.kind)
+inputs_of spec joins streams actor = inputs_from joins streams actor 0 (row_of spec.kind).inports
 
 abbrev pub ready_of : ActorSpec → List Join → ℕ → ℕ → List Token → List Stream → Bool
-ready_of spec joins actor action slots streams = is_ready spec.kind spec.args slots action (inputs_of spec joins streams actor)
+ready_of spec joins actor action slots streams = is_ready (row_of spec.kind) spec.args slots action (inputs_of spec joins streams actor)
 
 abbrev pub effect_at : ActorSpec → List Join → ℕ → ℕ → List Token → List Stream → Effect
-effect_at spec joins actor action slots streams = effect_of spec.kind spec.args slots action (heads_of spec.kind spec.args action 0 (inputs_of spec joins streams actor))
+effect_at spec joins actor action slots streams = effect_of (row_of spec.kind) spec.args slots action (heads_of (row_of spec.kind) spec.args action 0 (inputs_of spec joins streams actor))
 
 -- what one firing does to the actor's slots and to the streams
 pub record FiresOne (spec : ActorSpec) (joins : List Join) (actor action : ℕ) (slots : List Token) (streams : List Stream) (slots_after : List Token) (all_after : List Stream) : Type 0 where

@@ -6,7 +6,7 @@ ghost use Rattle.cv_solo.specs.Keyed.{keyed};
 
 use crate::solo::{Solo, feeds, first_of};
 use crate::stream::Stream;
-use cv_kinds::{ActorSpec, Join, Kind};
+use cv_kinds::{ActorSpec, Join};
 use cv_token::{OutOfMemory, Text, Token, text};
 use std::alloc::Global;
 
@@ -101,7 +101,7 @@ fn push_print(
 ) -> Result<(), OutOfMemory>
     ensures { OnOk result (map keyed prints.new.items ≡ map keyed prints.old.items ++ print_of place actor.now) }
 {
-    if actor.kind == Kind::Print {
+    if actor.kind.is_print() {
         prints.push((String::from_str(alloc, actor.path.as_str())?, place))?;
     }
     Ok(())

@@ -1,12 +1,15 @@
 //! `Solo`: the machine of the one-runtime meaning.
 
 ghost use Rattle.std.specs.Prelude.{◌≡◌, ◌==◌, ◌&&◌, ◌+◌, ◌<◌, ◌^◌, [], ◌++◌, length, vec_len, Some, None, false, map, replicate, drop, take, IfOk, OnOk, Err};
-ghost use Rattle.cv_solo.specs.OneRuntime.{opening, waiting, inputs_from, taken_on, stream_after, streams_after, fire, ready_of, FiresOne};
+ghost use Rattle.cv_solo.specs.OneRuntime.{opening, waiting, inputs_from, inputs_of, taken_on, stream_after, streams_after, fire, ready_of, FiresOne};
 ghost use Rattle.cv_solo.specs.Machine.{Machine};
-ghost use Rattle.cv_kinds.specs.KindRow.{has_counts, heads_of, inport_count, start_of};
+ghost use Rattle.std.specs.Option.{option_copied};
+ghost use Rattle.cv_behave.specs.KindRow.{has_counts, head_at, heads_of};
+ghost use Rattle.cv_kinds.specs.KindRow.{row_of};
 
 use crate::stream::Stream;
-use cv_kinds::{ActorSpec, Effect, Join, Network, Outs};
+use cv_behave::{Behave, Effect, Outs};
+use cv_kinds::{ActorSpec, Join, Network};
 use cv_token::{Items, OutOfMemory, Token};
 use std::alloc::{AllocError, Global};
 use std::marker::Model;
@@ -143,9 +146,22 @@ fn is_ready(
 ) -> bool
     ensures { result ≡ ready_of spec.now joins.now actor action slots.now streams.now }
 {
-    action < spec.kind.actions()
-        && has_counts(spec, joins, streams, actor, action)
-        && spec.kind.guard(&spec.args, slots, action)
+    let head = guard_head(spec, joins, streams, actor);
+    has_counts(spec, joins, streams, actor, action)
+        && spec.kind.guard(&spec.args, slots, action, head)
+}
+
+/// The first token that waits at the guard port.
+fn guard_head<'a>(
+    spec: &ActorSpec,
+    joins: &[Join],
+    streams: &'a [Stream],
+    actor: u16,
+) -> Option<&'a Token>
+    ensures { option_copied result ≡ head_at (row_of spec.now.kind).guard_port (inputs_of spec.now joins.now streams.now actor) }
+{
+    let port = spec.kind.guard_port()?;
+    waiting(joins, streams, actor, port).first()
 }
 
 /// What a firing writes to each connection and takes from it.
@@ -213,7 +229,7 @@ fn taken_from(spec: &ActorSpec, actor: u16, action: u8, join: &Join, stream: &St
 
 /// The slots of each actor at the start.
 fn starting_slots(alloc: Global, actors: &[ActorSpec]) -> Result<Vec<Items>, OutOfMemory>
-    ensures { IfOk result (λ slots. slots.items ≡ map (λ a. start_of a.kind a.args) actors.now) }
+    ensures { IfOk result (λ slots. slots.items ≡ map (λ a. (row_of a.kind).start a.args) actors.now) }
 {
     let mut slots = Vec::with_capacity(alloc, actors.len())?;
     for actor in actors {
@@ -275,7 +291,7 @@ fn left_of(stream: &Stream) -> &[Token]
 /// Whether each needed inport has its count.
 #[tactic(auto, using(crate::proofs::Inputs::inputs_next))]
 fn has_counts(spec: &ActorSpec, joins: &[Join], streams: &[Stream], actor: u16, action: u8) -> bool
-    ensures { result ≡ has_counts spec.now.kind spec.now.args action 0 (inputs_from joins.now streams.now actor 0 (inport_count spec.now.kind)) }
+    ensures { result ≡ has_counts (row_of spec.now.kind) spec.now.args action 0 (inputs_from joins.now streams.now actor 0 (row_of spec.now.kind).inports) }
 {
     for port in 0..spec.kind.inports() {
         let needed = spec.kind.needs(&spec.args, action, port);
@@ -296,7 +312,7 @@ fn copied_heads(
     actor: u16,
     action: u8,
 ) -> Result<Items, OutOfMemory>
-    ensures { IfOk result (λ heads. heads ≡ heads_of spec.now.kind spec.now.args action 0 (inputs_from joins.now streams.now actor 0 (inport_count spec.now.kind))) }
+    ensures { IfOk result (λ heads. heads ≡ heads_of (row_of spec.now.kind) spec.now.args action 0 (inputs_from joins.now streams.now actor 0 (row_of spec.now.kind).inports)) }
 {
     let mut heads = Items::new(alloc);
     for port in 0..spec.kind.inports() {

@@ -1,7 +1,8 @@
 use Rattle.std.proofs.Common.{◌≡◌, ◌-◌}
-use Rattle.cv_kinds.specs.KindRow.{has_counts, inport_count}
+use Rattle.cv_behave.specs.KindRow.{has_counts}
+use Rattle.cv_kinds.specs.KindRow.{row_of}
 use Rattle.cv_solo.specs.OneRuntime.{inputs_from}
 use Rattle.cv_solo.proofs.solo.has_counts.Given as goal
 
 abbrev pub invariant-loop-port : goal.invariant-loop-port
-invariant-loop-port l = has_counts l.spec.kind l.spec.args l.action l.port (inputs_from l.joins l.streams l.actor l.port (inport_count l.spec.kind - l.port)) ≡ has_counts l.spec.kind l.spec.args l.action 0 (inputs_from l.joins l.streams l.actor 0 (inport_count l.spec.kind))
+invariant-loop-port l = has_counts (row_of l.spec.kind) l.spec.args l.action l.port (inputs_from l.joins l.streams l.actor l.port ((row_of l.spec.kind).inports - l.port)) ≡ has_counts (row_of l.spec.kind) l.spec.args l.action 0 (inputs_from l.joins l.streams l.actor 0 (row_of l.spec.kind).inports)

@@ -1,0 +1,4 @@
+pub mod Givens
+pub mod Lines
+pub mod Promises
+pub mod States
