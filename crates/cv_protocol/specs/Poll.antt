@@ -6,7 +6,7 @@ use Rattle.cv_behave.specs.KindRow.{Row, action_count, needed, given, is_timed, 
 use Rattle.cv_protocol.specs.declared.poll.Need.{Need}
 use Rattle.cv_protocol.specs.declared.poll.Need.TheVariants as need
 use Rattle.cv_protocol.specs.declared.state.Inlet.{Inlet}
-use Rattle.cv_protocol.specs.Kinds.{row_of}
+use Rattle.cv_kinds.specs.KindRow.{row_of}
 use Rattle.cv_protocol.specs.Actors.{Actor, LiveState}
 
 -- every number of a node stays below this one

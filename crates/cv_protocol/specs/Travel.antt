@@ -8,7 +8,7 @@ use Rattle.cv_queue.specs.declared.reader.Subscription.{Subscription}
 use Rattle.cv_queue.specs.Ports.{OutView, new_out, new_in, after_cancel}
 use Rattle.cv_protocol.specs.declared.state.Hint.{Hint}
 use Rattle.cv_protocol.specs.declared.state.Inlet.{Inlet}
-use Rattle.cv_protocol.specs.Kinds.{row_of}
+use Rattle.cv_kinds.specs.KindRow.{row_of}
 use Rattle.cv_protocol.specs.Actors.{Actor, LiveState, StateView}
 
 -- a port holds at most this many tokens
