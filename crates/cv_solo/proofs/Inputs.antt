@@ -1,5 +1,5 @@
 -- The inputs of an actor, one port after the other.
-use Rattle.std.proofs.Common.{◌≡◌, ℕ, zero, suc, ◌+◌, ◌-◌, ◌<◌, ◌≤◌, List, [], ◌∷◌, length, take, drop, ◌++◌, append_assoc, refl, arith, add-one, ap, sym, ◌∙◌, subst, slice_get, Option, Some, None, IfSome, unwrap_or}
+use Rattle.std.proofs.Common.{◌≡◌, ℕ, zero, suc, ◌+◌, ◌-◌, ◌<◌, ◌≤◌, List, [], ◌∷◌, length, take, drop, ◌++◌, append_assoc, refl, arith, add-one, ap, sym, ◌∙◌, subst, slice_get, Option, Some, IfSome, unwrap_or}
 use Rattle.std.proofs.Math.ListN.{drop_of_length-le}
 use Rattle.cv_token.specs.declared.token.Token.{Token}
 use Rattle.cv_behave.specs.KindRow.{Row, head_at, heads_of, needed}

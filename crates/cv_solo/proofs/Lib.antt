@@ -1,2 +1,5 @@
 pub mod Inputs
 pub mod Prints
+pub mod Rounds
+pub mod Turns
+pub mod Undoings

@@ -1,4 +1,6 @@
 pub mod Keyed
 pub mod Machine
 pub mod OneRuntime
+pub mod PlainNetwork
 pub mod PrintedText
+pub mod Undoing

@@ -2,6 +2,7 @@
 #![tactic(auto)]
 
 pub mod printing;
+pub mod round;
 pub mod solo;
 pub mod stream;
 

@@ -1,8 +1,9 @@
 //! `Solo`: the machine of the one-runtime meaning.
 
-ghost use Rattle.std.specs.Prelude.{◌≡◌, ◌==◌, ◌&&◌, ◌+◌, ◌<◌, ◌^◌, [], ◌++◌, length, vec_len, Some, None, false, map, replicate, drop, take, IfOk, OnOk, Err};
-ghost use Rattle.cv_solo.specs.OneRuntime.{opening, waiting, inputs_from, inputs_of, taken_on, stream_after, streams_after, fire, ready_of, FiresOne};
+ghost use Rattle.std.specs.Prelude.{◌≡◌, ◌==◌, ◌&&◌, ◌+◌, ◌<◌, ◌^◌, [], ◌++◌, length, vec_len, Some, None, false, map, replicate, drop, take, IfOk, OnOk, OnErr, Err, if◌then◌else◌, ◌≤◌};
+ghost use Rattle.cv_solo.specs.OneRuntime.{opening, waiting, inputs_from, inputs_of, given_on, taken_on, stream_after, streams_after, fire, ready_of, FiresOne};
 ghost use Rattle.cv_solo.specs.Machine.{Machine};
+ghost use Rattle.cv_solo.specs.Undoing.{undone, without_last};
 ghost use Rattle.std.specs.Option.{option_copied};
 ghost use Rattle.cv_behave.specs.KindRow.{has_counts, head_at, heads_of};
 ghost use Rattle.cv_kinds.specs.KindRow.{row_of};
@@ -70,13 +71,14 @@ impl Solo {
         })
     }
 
-    /// Fires an action of an actor. Neither space nor priority nor time is looked at. A firing that is not enabled changes
-    /// nothing; after want of memory the machine is of no more use.
+    /// Fires an action of an actor. Neither space nor priority nor time is looked at. What is refused changes nothing:
+    /// NotEnabled comes exactly where tokens or guard lack or there is no such actor or action.
     pub fn fire(&mut self, alloc: Global, actor: u16, action: u8) -> Result<(), SoloFault>
         ensures net { self.new.net ≡ self.old.net }
         ensures fired { OnOk result (fire self.old.net self.old.runtime actor action ≡ Some self.new.runtime) }
         ensures not_enabled { result ≡ Err SoloFault.NotEnabled → fire self.old.net self.old.runtime actor action ≡ None }
-        ensures unchanged { result ≡ Err SoloFault.NotEnabled → self.new ≡ self.old }
+        ensures only { fire self.old.net self.old.runtime actor action ≡ None → result ≡ Err SoloFault.NotEnabled }
+        ensures err { OnErr result (self.new ≡ self.old) }
     {
         let Some(spec) = self.net.actors().get(actor as usize) else {
             return Err(SoloFault::NotEnabled)
@@ -123,14 +125,15 @@ fn fire_one(
     ensures len { vec_len streams.new ≡ vec_len streams.old }
     ensures fired { OnOk result (FiresOne spec.now joins.now actor action slots.old streams.old.items slots.new streams.new.items) }
     ensures not_enabled { result ≡ Err SoloFault.NotEnabled → ready_of spec.now joins.now actor action slots.old streams.old.items ≡ false }
-    ensures unchanged { result ≡ Err SoloFault.NotEnabled → (slots.new ≡ slots.old) × (streams.new.items ≡ streams.old.items) }
+    ensures only { ready_of spec.now joins.now actor action slots.old streams.old.items ≡ false → result ≡ Err SoloFault.NotEnabled }
+    ensures err { OnErr result ((slots.new ≡ slots.old) × (streams.new.items ≡ streams.old.items)) }
 {
     if !is_ready(spec, joins, streams.as_slice(), slots, actor, action) {
         return Err(SoloFault::NotEnabled);
     }
     let heads = copied_heads(alloc, spec, joins, streams.as_slice(), actor, action)?;
     let Effect { state, out } = spec.kind.effect(alloc, &spec.args, slots, action, &heads)?;
-    advance_all(alloc, spec, actor, action, &out, joins, streams)?;
+    advance_from(alloc, spec, actor, action, &out, joins, streams, 0)?;
     *slots = state;
     Ok(())
 }
@@ -164,8 +167,19 @@ fn guard_head<'a>(
     waiting(joins, streams, actor, port).first()
 }
 
-/// What a firing writes to each connection and takes from it.
-fn advance_all(
+/// What a firing did to a connection.
+#[derive(Clone, Copy)]
+pub(crate) struct Change {
+    /// How many tokens it took.
+    pub taken: u64,
+    /// Whether it wrote one.
+    pub gave: bool,
+}
+
+/// What a firing writes to each connection and takes from it, for the connections from a place on. Want of memory changes
+/// nothing.
+#[cycle(advance)]
+fn advance_from(
     alloc: Global,
     spec: &ActorSpec,
     actor: u16,
@@ -173,26 +187,34 @@ fn advance_all(
     out: &Outs,
     joins: &[Join],
     streams: &mut Vec<Stream>,
+    place: usize,
 ) -> Result<(), OutOfMemory>
     requires { length joins.now ≡ vec_len streams.old }
     ensures len { vec_len streams.new ≡ vec_len streams.old }
-    ensures after { OnOk result (streams.new.items ≡ streams_after spec.now actor action out.now joins.now streams.old.items) }
+    ensures after { OnOk result (streams.new.items ≡ take place streams.old.items ++ streams_after spec.now actor action out.now (drop place joins.now) (drop place streams.old.items)) }
+    ensures err { OnErr result (streams.new.items ≡ streams.old.items) }
 {
-    for place in 0..joins.len() {
-        advance(
-            alloc,
-            spec,
-            actor,
-            action,
-            out,
-            &joins[place],
-            &mut streams[place],
-        )?;
+    if place >= joins.len() {
+        return Ok(());
+    }
+    let change = advance(
+        alloc,
+        spec,
+        actor,
+        action,
+        out,
+        &joins[place],
+        &mut streams[place],
+    )?;
+    let rest = advance_from(alloc, spec, actor, action, out, joins, streams, place + 1);
+    if let Err(error) = rest {
+        retreat(change, &mut streams[place]);
+        return Err(error);
     }
     Ok(())
 }
 
-/// What a firing writes to a connection and takes from it.
+/// What a firing writes to a connection and takes from it. Want of memory changes nothing.
 fn advance(
     alloc: Global,
     spec: &ActorSpec,
@@ -201,17 +223,51 @@ fn advance(
     out: &Outs,
     join: &Join,
     stream: &mut Stream,
-) -> Result<(), OutOfMemory>
-    ensures { OnOk result (stream.new ≡ stream_after spec.now actor action out.now join.now stream.old) }
+) -> Result<Change, OutOfMemory>
+    ensures after { OnOk result (stream.new ≡ stream_after spec.now actor action out.now join.now stream.old) }
+    ensures back { IfOk result (λ change. (change.taken ≤ stream.new.took) × (undone change stream.new ≡ stream.old)) }
+    ensures err { OnErr result (stream.new ≡ stream.old) }
 {
     let taken = taken_from(spec, actor, action, join, stream);
-    if join.from == actor {
-        if let Some(Some(token)) = out.get(join.out as usize) {
-            stream.wrote.push(token.copy(alloc)?)?;
-        }
-    }
+    let gave = give(alloc, actor, out, join, &mut stream.wrote)?;
     stream.took += taken;
-    Ok(())
+    Ok(Change { taken, gave })
+}
+
+/// Takes back what a firing did to a connection.
+fn retreat(change: Change, stream: &mut Stream)
+    requires { change.taken ≤ stream.old.took }
+    ensures { stream.new ≡ undone change stream.old }
+{
+    if change.gave {
+        let _last = stream.wrote.pop();
+    }
+    stream.took -= change.taken;
+}
+
+/// Writes to a connection the token that its outport is given, and tells whether there is one. Want of memory changes
+/// nothing.
+fn give(
+    alloc: Global,
+    actor: u16,
+    out: &Outs,
+    join: &Join,
+    wrote: &mut Items,
+) -> Result<bool, OutOfMemory>
+    ensures after { OnOk result (wrote.new ≡ wrote.old ++ given_on out.now actor join.now) }
+    ensures back { IfOk result (λ gave. (if gave then without_last wrote.new else wrote.new) ≡ wrote.old) }
+    ensures err { OnErr result (wrote.new ≡ wrote.old) }
+{
+    if join.from != actor {
+        return Ok(false);
+    }
+    match out.get(join.out as usize) {
+        Some(Some(token)) => {
+            wrote.push(token.copy(alloc)?)?;
+            Ok(true)
+        }
+        _ => Ok(false),
+    }
 }
 
 /// How many tokens a firing takes from a connection.

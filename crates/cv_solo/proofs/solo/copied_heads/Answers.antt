@@ -1,4 +1,4 @@
-use Rattle.std.proofs.Common.{◌≡◌, ◌<◌, subst, ℕ}
+use Rattle.std.proofs.Common.{◌<◌, subst, ℕ}
 use Rattle.cv_kinds.specs.KindRow.{row_of}
 use Rattle.cv_solo.proofs.Inputs.{heads_next}
 use Rattle.cv_solo.proofs.solo.copied_heads.Goals as goal

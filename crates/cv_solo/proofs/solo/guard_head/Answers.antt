@@ -1,4 +1,4 @@
-use Rattle.std.proofs.Common.{◌≡◌, ◌∙◌, List, ap, sym, slice_get}
+use Rattle.std.proofs.Common.{◌∙◌, List, ap, sym, slice_get}
 use Rattle.cv_token.specs.declared.token.Token.{Token}
 use Rattle.cv_solo.proofs.Inputs.{head_waits}
 use Rattle.cv_solo.proofs.solo.guard_head.Goals as goal
