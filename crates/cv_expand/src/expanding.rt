@@ -1,0 +1,44 @@
+//! A script expanded: its components inlined, its names replaced by what they stand for.
+
+ghost use Rattle.cv_expand.specs.Meaning.{meaning};
+ghost use Rattle.std.specs.Prelude.{◌≡◌};
+ghost use Rattle.cv_expand.specs.Runs.{Answers, nothing};
+
+use crate::checking::{check_components, check_rules};
+use crate::components::Components;
+use crate::constants::constants;
+use crate::fault::ExpandFault;
+use crate::flat::Parts;
+use crate::setting::World;
+use crate::walking::walk_root;
+use cv_syntax::Script;
+use sqlite_items::Items;
+use std::alloc::Global;
+
+/// The actors, component instances and joins of a script in the order of its walk, or the first fault that the walk
+/// meets: those of the constants, then of the components, then of the rules, then of the root's statements.
+pub fn expand(alloc: Global, script: &Script) -> Result<Parts, ExpandFault>
+    ensures exact { Answers result (meaning (script.now).items) }
+{
+    let items = script.items.as_slice();
+    let defines = constants(alloc, items)?;
+    check_components(alloc, items)?;
+    check_rules(alloc, items)?;
+    let components = Components::of(alloc, items)?;
+    let world = World {
+        components,
+        defines,
+    };
+    walk_root(alloc, &world, items, nothing(alloc))
+}
+
+/// Nothing was met yet.
+fn nothing(alloc: Global) -> Parts
+    ensures { result ≡ nothing }
+{
+    Parts {
+        actors: Items::new(alloc),
+        instances: Items::new(alloc),
+        feeds: Items::new(alloc),
+    }
+}

@@ -1,0 +1,69 @@
+//! What a script is expanded to.
+
+use crate::path::{Path, Step};
+use cv_readers::Name;
+use cv_syntax::{Literal, Target};
+use cv_token::Text;
+use sqlite_items::Items;
+
+/// The value of an argument, with names replaced by what they stand for.
+#[derive(Drop)]
+pub enum Given {
+    Literal(Literal),
+    /// The letters of a number with a fraction.
+    Fraction(Text),
+}
+
+/// An argument of an actor, with its place.
+#[derive(Drop)]
+pub struct Argument {
+    pub name: Name,
+    pub given: Given,
+}
+
+/// An actor: its path, its kind as written, its arguments in written order, and its place.
+#[derive(Drop)]
+pub struct Actor {
+    pub path: Path,
+    pub kind: Text,
+    pub args: Items<Argument>,
+    pub at: u32,
+}
+
+/// A component instance: its path, its component, the ports of the component's head, and its place.
+#[derive(Drop)]
+pub struct Instance {
+    pub path: Path,
+    pub component: Text,
+    pub inports: Items<Name>,
+    pub outports: Items<Name>,
+    pub at: u32,
+}
+
+/// Where a join comes from.
+#[derive(Drop)]
+pub enum Origin {
+    Void,
+    /// An inport of the body's own instance.
+    Own(Text),
+    /// An outport of what stands in the body one step further.
+    Port(Step, Text),
+}
+
+/// A join to one target: the path of its body, its source with the source's place, its target with the target's place.
+#[derive(Drop)]
+pub struct Feed {
+    pub body: Path,
+    pub origin: Origin,
+    pub at: u32,
+    pub target: Target,
+    pub target_at: u32,
+}
+
+/// Actors, instances and joins in the order in which the walk meets them.
+#[derive(Drop)]
+pub struct Parts {
+    pub actors: Items<Actor>,
+    pub instances: Items<Instance>,
+    pub feeds: Items<Feed>,
+}
