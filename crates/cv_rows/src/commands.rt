@@ -1,4 +1,4 @@
-//! Rows of `gen`, and of refusals that come late in a text or from devices that fail.
+//! Rows of `solo` and `gen`, and of refusals that come late in a text or from devices that fail.
 
 use super::*;
 use cv_io::Source;
@@ -48,6 +48,62 @@ fn scripts_are_generated(rt: HostRuntime) -> Result<(), Fail> {
         0
     );
     assert_eq!(rt; sink.bytes(), FIRST.as_bytes());
+    Ok(())
+}
+
+/// A timer of five tokens through an identity to a print.
+const TIMER: &str = "src : std.CountTimer(sleep=0.1, steps=5)\n\
+mid : std.Identity()\n\
+snk : io.Print()\n\
+src.integer > mid.token\n\
+mid.token > snk.token\n";
+
+#[test]
+fn the_plain_machine_prints(rt: HostRuntime) -> Result<(), Fail> {
+    let alloc = rt.alloc();
+    // the words, the script, and the text
+    let rows = [
+        (
+            ["solo"].as_slice(),
+            TIMER,
+            "snk 1\nsnk 2\nsnk 3\nsnk 4\nsnk 5\nfirings 15\nend quiescent\n",
+        ),
+        // of a round that is cut the actors behind the cut did not fire
+        (
+            ["solo", "--firings", "4"].as_slice(),
+            TIMER,
+            "snk 1\nfirings 4\nend spent\n",
+        ),
+        (
+            ["solo", "--firings", "15"].as_slice(),
+            TIMER,
+            "snk 1\nsnk 2\nsnk 3\nsnk 4\nsnk 5\nfirings 15\nend spent\n",
+        ),
+        (["solo"].as_slice(), "", "firings 0\nend quiescent\n"),
+        (
+            ["solo", "--firings", "0"].as_slice(),
+            "",
+            "firings 0\nend spent\n",
+        ),
+        // no queue fills up: a source without a reader fires for ever
+        (
+            ["solo", "--firings", "100"].as_slice(),
+            "src : std.Counter()",
+            "firings 100\nend spent\n",
+        ),
+        (
+            ["solo"].as_slice(),
+            "a : std.Identity()a.token > a.token",
+            "firings 0\nend quiescent\n",
+        ),
+    ];
+    for (words, script, text) in rows {
+        let bytes = Vec::from_slice(alloc, script.as_bytes())?;
+        let mut source = MemSource::new(bytes, 100, Vec::new(alloc));
+        let mut sink = MemSink::new(alloc, 1000, Vec::new(alloc));
+        assert_eq!(rt; status(&rt, alloc, words, &mut source, &mut sink)?, 0);
+        assert_eq!(rt; sink.bytes(), text.as_bytes());
+    }
     Ok(())
 }
 

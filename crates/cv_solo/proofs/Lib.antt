@@ -1,5 +1,6 @@
 pub mod Inputs
 pub mod Prints
+pub mod Replays
 pub mod Rounds
 pub mod Turns
 pub mod Undoings

@@ -1,5 +1,5 @@
 -- The plain meaning of a network: rounds, in each of which every actor, in order, fires its first ready action once.
-use Rattle.std.specs.Prelude.{◌≡◌, ℕ, zero, suc, ◌≤◌, Bool, if◌then◌else◌, List, [], ◌++◌, length, take, slice_get, Option, Some, None, option_and_then, option_map, option_to_list, unwrap_or}
+use Rattle.std.specs.Prelude.{◌≡◌, ℕ, zero, suc, ◌<◌, ◌≤◌, Bool, if◌then◌else◌, List, [], ◌++◌, length, take, slice_get, Option, Some, None, option_and_then, option_map, option_to_list, unwrap_or}
 use Rattle.std.specs.Option.{option_map_or}
 use Rattle.cv_behave.specs.KindRow.{action_count}
 use Rattle.cv_kinds.specs.KindRow.{row_of}
@@ -52,3 +52,19 @@ round_firings net r = firings_in net r 0 (length net.actors)
 pub record Begins (net : Net) (before : Runtime) (n : ℕ) (after : Runtime) : Type 0 where
   pub few : n ≤ length (round_firings net before)
   pub fired : solo_from net before (take n (round_firings net before)) ≡ Some after
+
+-- what the first n rounds fire
+abbrev pub rounds_firings : Net → Runtime → ℕ → List (ℕ × ℕ)
+rounds_firings net r zero = []
+rounds_firings net r (suc n) = round_firings net r ++ rounds_firings net (round net r) n
+
+-- no action of any actor is ready
+abbrev pub IsIdle : Net → Runtime → Type 0
+IsIdle net r = (actor : ℕ) → actor < length net.actors → first_ready net r actor ≡ None
+
+-- the first `most` firings of the rounds, or all where no action is ready any more, and the machine after them
+pub record IsPlainRun (net : Net) (most : ℕ) (firings : List (ℕ × ℕ)) (after : Runtime) : Type 0 where
+  pub count : ℕ
+  pub first : firings ≡ take most (rounds_firings net (opening net) count)
+  pub few : length firings ≤ most
+  pub defined : solo_from net (opening net) firings ≡ Some after

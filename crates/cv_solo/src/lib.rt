@@ -1,6 +1,7 @@
 //! The one-runtime meaning of a network: a plain machine that fires what it is told.
 #![tactic(auto)]
 
+pub mod laws;
 pub mod printing;
 pub mod round;
 pub mod solo;

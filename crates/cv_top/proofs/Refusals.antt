@@ -8,6 +8,7 @@ use Rattle.cv_deploy.specs.declared.fault.NoNetwork.TheVariants as none
 use Rattle.cv_deploy.specs.Faults.{Gives}
 use Rattle.cv_node.specs.declared.event.Record.{Record}
 use Rattle.cv_top.specs.declared.end.Answer.{Answer}
+use Rattle.cv_top.specs.declared.running.Runner.{Runner}
 use Rattle.cv_top.specs.declared.end.End.{End}
 use Rattle.cv_top.specs.declared.end.End.TheVariants as end
 use Rattle.cv_top.specs.declared.end.Refusal.{Refusal}
@@ -56,10 +57,10 @@ memory_alone (none.Script fault) x is = absurd is
 memory_alone none.OutOfMemory x is = tt
 
 -- a script that was read and run, or refused
-pub run_decided : (most : ℕ) (r : Reading) (bytes : List ℕ) (x : Result Answer Refusal) → Gave r bytes → length bytes ≤ script_limit → IfOk x (IsRunAnswer bytes most) → IfErr x (IsRefusalOf bytes) → IsRunDecided most r x
-run_decided most r bytes (Ok answer) gave short ran refused = (bytes, gave, ran)
-run_decided most r bytes (Err (refusal.Script line col c)) gave short ran refused = (bytes, gave, short, refused)
-run_decided most r bytes (Err refusal.OutOfMemory) gave short ran refused = ((bytes, gave.given, short), gave.steady)
-run_decided most r bytes (Err refusal.Usage) gave short ran refused = absurd refused
-run_decided most r bytes (Err refusal.ReadFault) gave short ran refused = absurd refused
-run_decided most r bytes (Err refusal.TooLong) gave short ran refused = absurd refused
+pub run_decided : (runner : Runner) (most : ℕ) (r : Reading) (bytes : List ℕ) (x : Result Answer Refusal) → Gave r bytes → length bytes ≤ script_limit → IfOk x (IsRunAnswer runner bytes most) → IfErr x (IsRefusalOf bytes) → IsRunDecided runner most r x
+run_decided runner most r bytes (Ok answer) gave short ran refused = (bytes, gave, ran)
+run_decided runner most r bytes (Err (refusal.Script line col c)) gave short ran refused = (bytes, gave, short, refused)
+run_decided runner most r bytes (Err refusal.OutOfMemory) gave short ran refused = ((bytes, gave.given, short), gave.steady)
+run_decided runner most r bytes (Err refusal.Usage) gave short ran refused = absurd refused
+run_decided runner most r bytes (Err refusal.ReadFault) gave short ran refused = absurd refused
+run_decided runner most r bytes (Err refusal.TooLong) gave short ran refused = absurd refused

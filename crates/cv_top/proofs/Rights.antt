@@ -1,5 +1,5 @@
 -- A record of one node of a wired network keeps its streams, and the text is that of its firings.
-use Rattle.std.proofs.Common.{◌≡◌, ℕ, List, [], ◌∷◌, ◌++◌, map, take, codes, Some, refl, ap, sym, ◌∙◌, subst, append-nil, string_bytes}
+use Rattle.std.proofs.Common.{◌≡◌, ℕ, List, [], ◌∷◌, ◌++◌, map, take, codes, Some, Result, Ok, Err, IsTrue, refl, ap, sym, ◌∙◌, subst, append-nil, string_bytes}
 use Rattle.cv_kinds.specs.Net.{Net}
 use Rattle.cv_kinds.specs.Wired.{IsWired}
 use Rattle.cv_node.specs.declared.event.Entry.{Entry}
@@ -12,12 +12,15 @@ use Rattle.cv_merge.specs.Streams.{firing_of, firings, deploys, StreamsInOrder}
 use Rattle.cv_merge.proofs.Runs.{every_run}
 use Rattle.cv_solo.specs.OneRuntime.{solo}
 use Rattle.cv_top.specs.declared.end.Answer.{Answer}
-use Rattle.cv_top.specs.declared.words.Command.TheVariants.{Run}
-use Rattle.cv_top.specs.Answers.{IsSuccess, IsRunAnswer}
+use Rattle.cv_top.specs.declared.end.Refusal.{Refusal}
+use Rattle.cv_top.specs.declared.end.Refusal.TheVariants as refusal
+use Rattle.cv_top.specs.declared.running.Runner.{Runner}
+use Rattle.cv_top.specs.declared.running.Runner.TheVariants.{Node, Rounds}
+use Rattle.cv_top.specs.Answers.{IsSuccess, IsRunAnswer, IsRunDecided, IsDecided}
 use Rattle.cv_top.specs.Devices.{Reading, Gave}
 use Rattle.cv_top.specs.Printed.{firings_of, IsTextWhereDefined}
-use Rattle.cv_top.specs.Ran.{IsRightRun}
-use Rattle.cv_top.specs.Words.{command_of}
+use Rattle.cv_top.specs.Ran.{IsRightRun, command_for}
+use Rattle.cv_top.specs.Words.{command_of, reads_script}
 
 -- the firings of the steps are those of the entries
 firings_recorded : (entries : List Entry) → firings_of (map step_of entries) ≡ firings entries
@@ -47,9 +50,22 @@ right_run net most s m text wired run printed =
     }
 
 -- a run of the script that the source gave is what the words and the source are answered with
-pub run_success : (words : List (List ℕ)) (r : Reading) (bytes : List ℕ) (most : ℕ) (answer : Answer) → command_of words ≡ Some (Run most) → Gave r bytes → IsRunAnswer bytes most answer
+run_success : (words : List (List ℕ)) (r : Reading) (runner : Runner) (bytes : List ℕ) (most : ℕ) (answer : Answer) → command_of words ≡ Some (command_for runner most) → Gave r bytes → IsRunAnswer runner bytes most answer
     → IsSuccess words r answer.end answer.merged (string_bytes answer.text)
-run_success words r bytes most answer asked gave (stop.Spent, ends, run) =
-    subst (λ e. IsSuccess words r e answer.merged (string_bytes answer.text)) (sym ends) (bytes, gave, record { most = most; asked = asked; run = run })
-run_success words r bytes most answer asked gave (stop.Quiescent, ends, run) =
-    subst (λ e. IsSuccess words r e answer.merged (string_bytes answer.text)) (sym ends) (bytes, gave, record { most = most; asked = asked; run = run })
+run_success words r runner bytes most answer asked gave (stop.Spent, ends, run) =
+    subst (λ e. IsSuccess words r e answer.merged (string_bytes answer.text)) (sym ends) (bytes, gave, record { runner = runner; most = most; asked = asked; run = run })
+run_success words r runner bytes most answer asked gave (stop.Quiescent, ends, run) =
+    subst (λ e. IsSuccess words r e answer.merged (string_bytes answer.text)) (sym ends) (bytes, gave, record { runner = runner; most = most; asked = asked; run = run })
+
+reads_by : (runner : Runner) (most : ℕ) → IsTrue (reads_script (command_for runner most))
+reads_by Node most = refl
+reads_by Rounds most = refl
+
+-- and so is its refusal
+pub run_answered : (words : List (List ℕ)) (r : Reading) (runner : Runner) (most : ℕ) (x : Result Answer Refusal) → command_of words ≡ Some (command_for runner most) → IsRunDecided runner most r x → IsDecided words r x
+run_answered words r runner most (Ok answer) asked (bytes, gave, ran) = run_success words r runner bytes most answer asked gave ran
+run_answered words r runner most (Err (refusal.Script line col c)) asked is = ((command_for runner most, asked, reads_by runner most), is)
+run_answered words r runner most (Err refusal.ReadFault) asked is = ((command_for runner most, asked, reads_by runner most), is.0, is.1)
+run_answered words r runner most (Err refusal.TooLong) asked is = ((command_for runner most, asked, reads_by runner most), is.0, is.1)
+run_answered words r runner most (Err refusal.OutOfMemory) asked is = ((command_for runner most, asked), is.0, is.1)
+run_answered words r runner most (Err refusal.Usage) asked is = absurd is

@@ -5,6 +5,7 @@ use Rattle.cv_node.specs.declared.event.Record.{Record}
 use Rattle.cv_node.specs.declared.run.Stop.{Stop}
 use Rattle.cv_node.specs.declared.run.Stop.TheVariants as stop
 use Rattle.cv_top.specs.declared.end.Answer.{Answer}
+use Rattle.cv_top.specs.declared.running.Runner.{Runner}
 use Rattle.cv_top.specs.declared.end.End.{End}
 use Rattle.cv_top.specs.declared.end.End.TheVariants as end
 use Rattle.cv_top.specs.declared.end.Refusal.{Refusal}
@@ -68,8 +69,8 @@ pub record IsAnswered (words : List (List ℕ)) (r : Reading) (w : Writing) (e :
   pub told : IsTold w stated merged text e m
 
 -- a run of the script that the bytes spell, with its end, its record and its text
-abbrev pub IsRunAnswer : List ℕ → ℕ → Answer → Type 0
-IsRunAnswer bytes most answer = (s : Stop) × (answer.end ≡ end_at s) × IsRunOfScript bytes most s answer.merged (string_bytes answer.text)
+abbrev pub IsRunAnswer : Runner → List ℕ → ℕ → Answer → Type 0
+IsRunAnswer runner bytes most answer = (s : Stop) × (answer.end ≡ end_at s) × IsRunOfScript runner bytes most s answer.merged (string_bytes answer.text)
 
 -- what is to be told: the success of a command, or a refusal that has its cause
 abbrev pub IsDecided : List (List ℕ) → Reading → Result Answer Refusal → Type 0
@@ -77,13 +78,13 @@ IsDecided words r (Ok answer) = IsSuccess words r answer.end answer.merged (stri
 IsDecided words r (Err refusal) = IsCause words r refusal
 
 -- the same of a run of the script that the source gives, with so many firings at most
-abbrev pub IsRunDecided : ℕ → Reading → Result Answer Refusal → Type 0
-IsRunDecided most r (Ok answer) = (bytes : List ℕ) × Gave r bytes × IsRunAnswer bytes most answer
-IsRunDecided most r (Err refusal.ReadFault) = GaveAtMost script_limit r × Rose r.before r.now
-IsRunDecided most r (Err refusal.TooLong) = GaveOneMore script_limit r × IsSteady r
-IsRunDecided most r (Err refusal.OutOfMemory) = GaveAtMost script_limit r × IsSteady r
-IsRunDecided most r (Err (refusal.Script line col c)) = GaveFault r line col c
-IsRunDecided most r (Err refusal.Usage) = ⊥
+abbrev pub IsRunDecided : Runner → ℕ → Reading → Result Answer Refusal → Type 0
+IsRunDecided runner most r (Ok answer) = (bytes : List ℕ) × Gave r bytes × IsRunAnswer runner bytes most answer
+IsRunDecided runner most r (Err refusal.ReadFault) = GaveAtMost script_limit r × Rose r.before r.now
+IsRunDecided runner most r (Err refusal.TooLong) = GaveOneMore script_limit r × IsSteady r
+IsRunDecided runner most r (Err refusal.OutOfMemory) = GaveAtMost script_limit r × IsSteady r
+IsRunDecided runner most r (Err (refusal.Script line col c)) = GaveFault r line col c
+IsRunDecided runner most r (Err refusal.Usage) = ⊥
 
 -- the same of the script of so many chains
 abbrev pub IsGenAnswer : ℕ → Result Answer Refusal → Type 0

@@ -1,5 +1,5 @@
 -- What a run leaves: its record, and its text.
-use Rattle.std.specs.Prelude.{◌≡◌, ℕ, List, [], ◌++◌, Some}
+use Rattle.std.specs.Prelude.{◌≡◌, ℕ, ◌<◌, List, [], ◌++◌, length, Some}
 use Rattle.cv_deploy.specs.Faults.{Means}
 use Rattle.cv_kinds.specs.Net.{Net}
 use Rattle.cv_kinds.specs.Wired.{IsWired}
@@ -10,12 +10,20 @@ use Rattle.cv_node.specs.declared.run.Stop.TheVariants as stop
 use Rattle.cv_node.specs.Recorded.{IsOneNodeRun}
 use Rattle.cv_merge.specs.Streams.{StreamsInOrder}
 use Rattle.cv_solo.specs.OneRuntime.{Runtime, solo}
+use Rattle.cv_solo.specs.PlainNetwork.{IsIdle, IsPlainRun}
 use Rattle.cv_top.specs.declared.end.End.{End}
 use Rattle.cv_top.specs.declared.end.End.TheVariants as end
 use Rattle.cv_top.specs.Printed.{firings_of, IsTextOf}
-use Rattle.cv_top.specs.declared.words.Command.TheVariants.{Run}
+use Rattle.cv_top.specs.declared.words.Command.TheVariants.{Run, Solo}
+use Rattle.cv_top.specs.declared.words.Command.{Command}
+use Rattle.cv_top.specs.declared.running.Runner.{Runner}
+use Rattle.cv_top.specs.declared.running.Runner.TheVariants.{Node, Rounds}
 use Rattle.cv_top.specs.Devices.{Reading, Gave}
 use Rattle.cv_top.specs.Words.{command_of}
+
+-- no entry, and no node
+abbrev pub IsEmptyRecord : Record → Type 0
+IsEmptyRecord m = (m.entries ≡ []) × (m.specs ≡ [])
 
 -- a run of a network, with so many firings at most, that stopped so, with this record and this text
 pub record IsRightRun (net : Net) (most : ℕ) (s : Stop) (m : Record) (text : List ℕ) : Type 0 where
@@ -29,26 +37,49 @@ pub record IsRightRun (net : Net) (most : ℕ) (s : Stop) (m : Record) (text : L
   pub defined : solo net (firings_of m.entries) ≡ Some runtime
   pub printed : IsTextOf net (firings_of m.entries) runtime s text
 
+-- a run in rounds is spent exactly after the firings that were allowed, and quiescent only after fewer and where no action is
+-- ready
+abbrev pub RoundsEnd : Net → ℕ → Stop → List (ℕ × ℕ) → Runtime → Type 0
+RoundsEnd net most stop.Spent firings after = length firings ≡ most
+RoundsEnd net most stop.Quiescent firings after = (length firings < most) × IsIdle net after
+
+-- a run of a network by the one runtime in rounds, with so many firings at most, that stopped so, with this text: that of the
+-- first so many firings of the rounds. It leaves no record.
+pub record IsRightRounds (net : Net) (most : ℕ) (s : Stop) (m : Record) (text : List ℕ) : Type 0 where
+  pub firings : List (ℕ × ℕ)
+  pub runtime : Runtime
+  pub run : IsPlainRun net most firings runtime
+  pub ends : RoundsEnd net most s firings runtime
+  pub printed : IsTextOf net firings runtime s text
+  pub empty : IsEmptyRecord m
+
+-- a right run by either machine
+abbrev pub IsRightRunBy : Runner → Net → ℕ → Stop → Record → List ℕ → Type 0
+IsRightRunBy Node net most s m text = IsRightRun net most s m text
+IsRightRunBy Rounds net most s m text = IsRightRounds net most s m text
+
+-- the command that asks for a run by that machine
+abbrev pub command_for : Runner → ℕ → Command
+command_for Node most = Run most
+command_for Rounds most = Solo most
+
 -- a right run of the network that the bytes of a script mean, with so many firings at most
-pub record IsRunOfScript (bytes : List ℕ) (most : ℕ) (s : Stop) (m : Record) (text : List ℕ) : Type 0 where
+pub record IsRunOfScript (runner : Runner) (bytes : List ℕ) (most : ℕ) (s : Stop) (m : Record) (text : List ℕ) : Type 0 where
   pub net : Net
   pub means : Means bytes net
   pub wired : IsWired net
-  pub right : IsRightRun net most s m text
+  pub right : IsRightRunBy runner net most s m text
 
--- the same with as many firings at most as the words ask for
+-- the same by the machine and with as many firings at most as the words ask for
 pub record IsRunOf (words : List (List ℕ)) (bytes : List ℕ) (s : Stop) (m : Record) (text : List ℕ) : Type 0 where
+  pub runner : Runner
   pub most : ℕ
-  pub asked : command_of words ≡ Some (Run most)
-  pub run : IsRunOfScript bytes most s m text
+  pub asked : command_of words ≡ Some (command_for runner most)
+  pub run : IsRunOfScript runner bytes most s m text
 
 -- a right run of the script that the source gave
 abbrev pub RunFrom : List (List ℕ) → Reading → Stop → Record → List ℕ → Type 0
 RunFrom words r s m text = (bytes : List ℕ) × Gave r bytes × IsRunOf words bytes s m text
-
--- no entry, and no node
-abbrev pub IsEmptyRecord : Record → Type 0
-IsEmptyRecord m = (m.entries ≡ []) × (m.specs ≡ [])
 
 -- the end of a run that stopped so
 abbrev pub end_at : Stop → End

@@ -4,7 +4,7 @@ use Rattle.std.specs.List.{list_all}
 use Rattle.std.specs.Option.{option_map}
 use Rattle.std.specs.Str.{bytes_eq}
 use Rattle.cv_top.specs.declared.words.Command.{Command}
-use Rattle.cv_top.specs.declared.words.Command.TheVariants.{Run, Gen}
+use Rattle.cv_top.specs.declared.words.Command.TheVariants.{Run, Solo, Gen}
 
 abbrev pub is_digit : ℕ → Bool
 is_digit b = nat_le 48 b && nat_le b 57
@@ -48,15 +48,17 @@ chains_item (word ∷ []) = chains_word word
 chains_item (mark ∷ word ∷ []) = if bytes_eq mark (codes "--") then chains_word word else None
 chains_item _ = None
 
--- what the words ask for: `run` with or without `--firings N`, or `gen N`; None where the words are of another form
+-- what the words ask for: `run` or `solo`, with or without `--firings N`, or `gen N`; None where the words are of another form
 abbrev pub command_of : List (List ℕ) → Option Command
 command_of [] = None
 command_of (command ∷ rest) =
     if bytes_eq command (codes "run") then option_map Run (firings_option rest)
+    else if bytes_eq command (codes "solo") then option_map Solo (firings_option rest)
     else if bytes_eq command (codes "gen") then option_map Gen (chains_item rest)
     else None
 
 -- whether a command reads a script from the source
 abbrev pub reads_script : Command → Bool
 reads_script (Run most) = true
+reads_script (Solo most) = true
 reads_script (Gen number) = false

@@ -7,14 +7,15 @@ ghost use Rattle.cv_kinds.specs.Net.{Net};
 ghost use Rattle.cv_syntax.specs.declared.tree.Script.{Script};
 ghost use Rattle.cv_node.specs.declared.run.Stop.{Stop};
 ghost use Rattle.cv_top.specs.Causes.{IsRefusalOf, DoneOrFailed, UnbuiltOrFailed, UnlessRefused, RefusedBy, refusal_of};
-ghost use Rattle.cv_solo.specs.OneRuntime.{Runtime, solo, solo_from};
+ghost use Rattle.cv_solo.specs.OneRuntime.{Runtime, opening, solo, solo_from};
+ghost use Rattle.cv_solo.specs.PlainNetwork.{IsPlainRun};
 ghost use Rattle.cv_top.specs.Printed.{firings_of, last_lines, end_word, IsTextWhereDefined};
 ghost use Rattle.cv_merge.specs.Streams.{firing_of};
 ghost use Rattle.cv_kinds.specs.Wired.{IsWired};
-ghost use Rattle.cv_top.specs.Ran.{IsRightRun, end_at};
+ghost use Rattle.cv_top.specs.Ran.{IsRightRun, IsRightRounds, IsRightRunBy, RoundsEnd, end_at};
 ghost use Rattle.cv_top.specs.Answers.{IsRunAnswer};
 
-use crate::end::{Answer, End, Refusal};
+use crate::end::{Answer, End, Refusal, empty_record};
 use cv_deploy::{NoNetwork, compile};
 use cv_kinds::Network;
 use cv_node::{Event, Record, Step, Stop, run_alone};
@@ -22,16 +23,25 @@ use cv_solo::{Solo, SoloFault};
 use cv_token::OutOfMemory;
 use std::alloc::{AllocError, Global};
 
-/// Runs the script that the bytes spell on one node, with so many firings at most.
-pub fn run_script(alloc: Global, bytes: &[u8], most: u32) -> Result<Answer, Refusal>
+/// What runs a script.
+#[derive(Debug, Clone, Copy, PartialEq, Eq)]
+pub enum Runner {
+    /// One node, with queues at its ports and a journal.
+    Node,
+    /// The one runtime, which goes in rounds.
+    Rounds,
+}
+
+/// Runs the script that the bytes spell, with so many firings at most.
+pub fn run_script(alloc: Global, bytes: &[u8], runner: Runner, most: u32) -> Result<Answer, Refusal>
     requires { length bytes.now ≤ 2 ^ 31 }
-    ensures ran { IfOk result (λ answer. IsRunAnswer bytes.now most answer) }
+    ensures ran { IfOk result (λ answer. IsRunAnswer runner bytes.now most answer) }
     ensures cause { IfErr result (IsRefusalOf bytes.now) }
     ensures complete { (net : Net) → Means bytes.now net → UnlessRefused result DoneOrFailed }
     ensures unbuilt { (script : Script) → SpellsScript bytes.now script → network_of script.items ≡ None → RefusedBy result UnbuiltOrFailed }
 {
     match compile(alloc, bytes) {
-        Ok(net) => run_network(alloc, net, most).map_err(|_| Refusal::OutOfMemory),
+        Ok(net) => run_network(alloc, net, runner, most).map_err(|_| Refusal::OutOfMemory),
         Err(none) => Err(refusal_of(none)),
     }
 }
@@ -50,9 +60,58 @@ fn refusal_of(none: NoNetwork) -> Refusal
     }
 }
 
+/// Runs a network, with so many firings at most.
+fn run_network(
+    alloc: Global,
+    net: Network,
+    runner: Runner,
+    most: u32,
+) -> Result<Answer, OutOfMemory>
+    requires { IsWired net }
+    ensures { IfOk result (λ answer. (stop : Stop) × (answer.end ≡ end_at stop) × IsRightRunBy runner net most stop answer.merged (string_bytes answer.text)) }
+{
+    match runner {
+        Runner::Node => run_on_node(alloc, net, most),
+        Runner::Rounds => run_in_rounds(alloc, &net, most),
+    }
+}
+
+/// Runs a network by the one runtime in rounds, with so many firings at most.
+fn run_in_rounds(alloc: Global, net: &Network, most: u32) -> Result<Answer, OutOfMemory>
+    ensures { IfOk result (λ answer. (stop : Stop) × (answer.end ≡ end_at stop) × IsRightRounds net.now most stop answer.merged (string_bytes answer.text)) }
+{
+    let mut solo = Solo::new(alloc, net)?;
+    let (stop, fired) = make_rounds(alloc, &mut solo, most)?;
+    let prints = solo.print(alloc)?;
+    let text = with_last_lines(alloc, prints.as_str(), fired as usize, stop)?;
+    Ok(Answer {
+        end: End::at(stop),
+        merged: empty_record(alloc),
+        text,
+    })
+}
+
+/// Fires the rounds of a new machine, until so many firings were made or no action is ready: how it stopped, and how many
+/// firings were made.
+fn make_rounds(alloc: Global, solo: &mut Solo, most: u32) -> Result<(Stop, u32), OutOfMemory>
+    requires { solo.old.runtime ≡ opening solo.old.net }
+    ensures net { solo.new.net ≡ solo.old.net }
+    ensures made { IfOk result (λ run. (firings : List (ℕ × ℕ)) × IsPlainRun solo.old.net most firings solo.new.runtime × (length firings ≡ run.1) × RoundsEnd solo.old.net most run.0 firings solo.new.runtime) }
+{
+    let mut fired = 0;
+    while fired < most {
+        let more = solo.round(alloc, most - fired)?;
+        if more == 0 {
+            return Ok((Stop::Quiescent, fired));
+        }
+        fired += more;
+    }
+    Ok((Stop::Spent, fired))
+}
+
 /// Runs a network on one node, with so many firings at most.
 #[tactic(auto, using(crate::proofs::Rights::right_run))]
-fn run_network(alloc: Global, net: Network, most: u32) -> Result<Answer, OutOfMemory>
+fn run_on_node(alloc: Global, net: Network, most: u32) -> Result<Answer, OutOfMemory>
     requires { IsWired net }
     ensures { IfOk result (λ answer. (stop : Stop) × (answer.end ≡ end_at stop) × IsRightRun net most stop answer.merged (string_bytes answer.text)) }
 {

@@ -11,7 +11,7 @@ ghost use Rattle.cv_top.specs.Words.{command_of};
 
 use crate::end::{Answer, End, Outcome, Refusal, empty_record};
 use crate::generating::generated_script;
-use crate::running::run_script;
+use crate::running::{Runner, run_script};
 use crate::told::{tell, tell_refusal};
 use crate::words::{Command, read_command};
 use cv_io::{Gate, ReadAll, Sink, Source, read_all};
@@ -61,20 +61,26 @@ fn answer<S: Source>(alloc: Global, words: &[String], source: &mut S) -> Result<
     ensures unbuilt { (bytes : List ℕ) (script : Script) → IsAsked (map string_bytes words.now) (S.left source.old) bytes → SpellsScript bytes script → network_of script.items ≡ None → RefusedBy result UnbuiltOrFailed }
 {
     match read_command(words) {
-        Some(Command::Run { firings }) => run_source(alloc, source, firings),
+        Some(Command::Run { firings }) => run_source(alloc, source, Runner::Node, firings),
+        Some(Command::Solo { firings }) => run_source(alloc, source, Runner::Rounds, firings),
         Some(Command::Gen { number }) => generate(alloc, number),
         None => Err(Refusal::Usage),
     }
 }
 
 /// Runs the script that the source gives, with so many firings at most.
-fn run_source<S: Source>(alloc: Global, source: &mut S, most: u32) -> Result<Answer, Refusal>
-    ensures decided { IsRunDecided most (record { left = S.left source.old; rest = S.left source.new; before = S.faults source.old; now = S.faults source.new }) result }
+fn run_source<S: Source>(
+    alloc: Global,
+    source: &mut S,
+    runner: Runner,
+    most: u32,
+) -> Result<Answer, Refusal>
+    ensures decided { IsRunDecided runner most (record { left = S.left source.old; rest = S.left source.new; before = S.faults source.old; now = S.faults source.new }) result }
     ensures complete { (bytes : List ℕ) (net : Net) → IsToldWithin (S.left source.old) bytes → Means bytes net → UnlessRefused result DoneOrFailed }
     ensures unbuilt { (bytes : List ℕ) (script : Script) → IsToldWithin (S.left source.old) bytes → SpellsScript bytes script → network_of script.items ≡ None → RefusedBy result UnbuiltOrFailed }
 {
     let bytes = read_script(alloc, source)?;
-    run_script(alloc, bytes.as_slice(), most)
+    run_script(alloc, bytes.as_slice(), runner, most)
 }
 
 /// Reads a script to the source's end.

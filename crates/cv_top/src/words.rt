@@ -18,11 +18,13 @@ pub const MOST_CHAINS: u32 = 50;
 pub enum Command {
     /// To run the script with so many firings at most, and to print its streams.
     Run { firings: u32 },
+    /// The same by the one runtime, which goes in rounds.
+    Solo { firings: u32 },
     /// To print a script of so many chains.
     Gen { number: u32 },
 }
 
-/// What the words ask for: `run`, `run --firings N` or `gen N`; None exactly where they are of another form.
+/// What the words ask for: `run` or `solo`, with or without `--firings N`, or `gen N`; None exactly where they are of another form.
 pub fn read_command(words: &[String]) -> Option<Command>
     ensures { result ≡ command_of (map string_bytes words.now) }
 {
@@ -32,6 +34,9 @@ pub fn read_command(words: &[String]) -> Option<Command>
     if command.as_str() == "run" {
         let firings = read_firings_option(rest)?;
         Some(Command::Run { firings })
+    } else if command.as_str() == "solo" {
+        let firings = read_firings_option(rest)?;
+        Some(Command::Solo { firings })
     } else if command.as_str() == "gen" {
         let number = read_chains_item(rest)?;
         Some(Command::Gen { number })
