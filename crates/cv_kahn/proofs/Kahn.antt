@@ -1,5 +1,5 @@
 -- The law: a run follows the rounds, and the rounds follow a run that rests.
-use Rattle.std.proofs.Common.{◌≡◌, ℕ, ◌≤◌, List, length, slice_get, Option, Some, None, refl, ap, sym, ◌∙◌, subst}
+use Rattle.std.proofs.Common.{◌≡◌, ◌⊎◌, ℕ, ◌+◌, ◌≤◌, List, length, slice_get, Option, Some, None, refl, ap, sym, ◌∙◌, subst, arith}
 use Rattle.cv_kinds.specs.declared.network.ActorSpec.{ActorSpec}
 use Rattle.cv_kinds.specs.declared.network.Join.{Join}
 use Rattle.cv_kinds.specs.Net.{Net}
@@ -9,7 +9,7 @@ use Rattle.cv_solo.specs.PlainNetwork.{plain}
 use Rattle.cv_kahn.specs.Determined.{Determined, IsDeterministic, Reaches, Rests}
 use Rattle.cv_kahn.specs.Determined.{itself, through}
 use Rattle.cv_kahn.specs.Streams.{Prefix, took_at, wrote_at}
-use Rattle.cv_kahn.proofs.Rows.{Longer, prefix_same}
+use Rattle.cv_kahn.proofs.Rows.{Longer, prefix_either, prefix_same}
 use Rattle.cv_kahn.proofs.Alone.{Local, behind_still, can}
 use Rattle.cv_kahn.proofs.Family.{Region, ahead_fed, ahead_sent, fed, fed_less, sent}
 use Rattle.cv_kahn.proofs.Fits.{same_ready, took_is, wrote_is}
@@ -90,3 +90,18 @@ taken net firings r n c j wired runs few at determined rests =
     let consumer = consumer_there (slice_get net.actors j.to) j.inp (wired.consumers c j at) in
     let h = at_rest net firings r n j.to consumer.0 wired runs few consumer.1 determined rests in
     took_is net r h.follows.low c j h.follows.low_fits at ∙ ap (λ (x : Local). x.took j.inp) h.same ∙ sym (took_is net (plain net n) h.follows.high c j h.follows.high_fits at)
+
+-- two runs, by the rounds that are ahead of both
+pub one_begins : (net : Net) (firings others : List (ℕ × ℕ)) (r s : Runtime) (c : ℕ) (j : Join) → IsWired net → solo net firings ≡ Some r → solo net others ≡ Some s → slice_get net.connections c ≡ Some j → Determined net j.from → Prefix (wrote_at r c) (wrote_at s c) ⊎ Prefix (wrote_at s c) (wrote_at r c)
+one_begins net firings others r s c j wired runs other_runs at determined =
+    let n = length firings + length others in
+    let few : length firings ≤ n = omega arith in
+    let other_few : length others ≤ n = omega arith in
+    prefix_either (wrote_at r c) (wrote_at s c) (wrote_at (plain net n) c) (prefix net firings r n c j wired runs few at determined) (prefix net others s n c j wired other_runs other_few at determined)
+
+pub same : (net : Net) (firings others : List (ℕ × ℕ)) (r s : Runtime) (c : ℕ) (j : Join) → IsWired net → solo net firings ≡ Some r → solo net others ≡ Some s → slice_get net.connections c ≡ Some j → Determined net j.from → Rests net r j.from → Rests net s j.from → wrote_at r c ≡ wrote_at s c
+same net firings others r s c j wired runs other_runs at determined rests other_rests =
+    let n = length firings + length others in
+    let few : length firings ≤ n = omega arith in
+    let other_few : length others ≤ n = omega arith in
+    whole net firings r n c j wired runs few at determined rests ∙ sym (whole net others s n c j wired other_runs other_few at determined other_rests)

@@ -1,6 +1,6 @@
 -- What a row makes of its inputs, and what of that stays when they grow.
 use borrow.Author.Tests.{leb-true}
-use Rattle.std.proofs.Common.{◌≡◌, ℕ, zero, suc, ◌+◌, ◌≤◌, ◌<◌, nat_le, true, List, [], ◌∷◌, ◌++◌, length, take, drop, refl, ap, sym, ◌∙◌, subst, arith, append_assoc}
+use Rattle.std.proofs.Common.{◌≡◌, ℕ, zero, suc, ◌+◌, ◌≤◌, ◌<◌, nat_le, true, List, [], ◌∷◌, ◌++◌, length, take, drop, ◌⊎◌, inl, inr, refl, ap, sym, ◌∙◌, subst, arith, append_assoc}
 use Rattle.std.proofs.lemmas.Bool.{and_parts}
 use Rattle.std.proofs.lemmas.List.{append-nil, take-append-le}
 use Rattle.cv_token.specs.declared.token.Token.{Token}
@@ -31,6 +31,23 @@ prefix_same (x ∷ xs) (y ∷ ys) p q =
     let two : xs ≡ ys ++ q.0 = cc in
     let below : xs ≡ ys = prefix_same xs ys (p.0, one) (q.0, two) in
     cc
+
+put_first : (x y : Token) (xs ys : List Token) → x ≡ y → Prefix xs ys ⊎ Prefix ys xs → Prefix (x ∷ xs) (y ∷ ys) ⊎ Prefix (y ∷ ys) (x ∷ xs)
+put_first x y xs ys same (inl p) = inl (p.0, ap (λ (l : List Token). y ∷ l) p.1 ∙ ap (λ (z : Token). z ∷ (xs ++ p.0)) (sym same))
+put_first x y xs ys same (inr q) = inr (q.0, ap (λ (l : List Token). x ∷ l) q.1 ∙ ap (λ (z : Token). z ∷ (ys ++ q.0)) same)
+
+-- of two prefixes of one list one is a prefix of the other
+pub prefix_either : (xs ys zs : List Token) → Prefix xs zs → Prefix ys zs → Prefix xs ys ⊎ Prefix ys xs
+prefix_either [] ys zs p q = inl (ys, refl)
+prefix_either (x ∷ xs) [] zs p q = inr (x ∷ xs, refl)
+prefix_either (x ∷ xs) (y ∷ ys) [] p q = let bad : [] ≡ x ∷ (xs ++ p.0) = p.1 in cc
+prefix_either (x ∷ xs) (y ∷ ys) (z ∷ zs) p q =
+    let first : z ∷ zs ≡ x ∷ (xs ++ p.0) = p.1 in
+    let second : z ∷ zs ≡ y ∷ (ys ++ q.0) = q.1 in
+    let here : x ≡ y = cc in
+    let one : zs ≡ xs ++ p.0 = cc in
+    let two : zs ≡ ys ++ q.0 = cc in
+    put_first x y xs ys here (prefix_either xs ys zs (p.0, one) (q.0, two))
 
 -- ---- inputs
 

@@ -1,6 +1,6 @@
 //! The law, over the one runtime and the rounds of the plain network. The functions do nothing: their clauses are laws.
 
-ghost use Rattle.std.specs.Prelude.{◌≡◌, ◌≤◌, ℕ, List, length, slice_get, Some};
+ghost use Rattle.std.specs.Prelude.{◌≡◌, ◌≤◌, ◌⊎◌, ℕ, List, length, slice_get, Some};
 ghost use Rattle.cv_kahn.specs.Determined.{Determined, Rests};
 ghost use Rattle.cv_kahn.specs.Streams.{Prefix, took_at, wrote_at};
 ghost use Rattle.cv_kinds.specs.Net.{Net};
@@ -30,4 +30,11 @@ pub fn taken()
 /// Where a determined actor can't fire, nor any that leads to it, its slots are those after the rounds.
 pub fn slots()
     ensures { (net : Net) (firings : List (ℕ × ℕ)) (r : Runtime) (n actor : ℕ) (spec : ActorSpec) → IsWired net → solo net firings ≡ Some r → length firings ≤ n → slice_get net.actors actor ≡ Some spec → Determined net actor → Rests net r actor → slots_of r actor ≡ slots_of (plain net n) actor }
+{}
+
+/// Of two runs of a network one wrote to a determined connection a prefix of what the other wrote, and both wrote the same
+/// where after neither run an actor that leads to it can fire.
+pub fn agree()
+    ensures one_begins { (net : Net) (firings others : List (ℕ × ℕ)) (r s : Runtime) (c : ℕ) (j : Join) → IsWired net → solo net firings ≡ Some r → solo net others ≡ Some s → slice_get net.connections c ≡ Some j → Determined net j.from → Prefix (wrote_at r c) (wrote_at s c) ⊎ Prefix (wrote_at s c) (wrote_at r c) }
+    ensures same { (net : Net) (firings others : List (ℕ × ℕ)) (r s : Runtime) (c : ℕ) (j : Join) → IsWired net → solo net firings ≡ Some r → solo net others ≡ Some s → slice_get net.connections c ≡ Some j → Determined net j.from → Rests net r j.from → Rests net s j.from → wrote_at r c ≡ wrote_at s c }
 {}

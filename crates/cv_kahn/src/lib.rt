@@ -3,4 +3,4 @@
 
 pub mod law;
 
-pub use law::{prefix, slots, taken, whole};
+pub use law::{agree, prefix, slots, taken, whole};
