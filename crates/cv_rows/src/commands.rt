@@ -15,6 +15,9 @@ mid1.token > sum1.integer\n\
 sum1.integer > pick1.token\n\
 pick1.token > snk1.token\n";
 
+/// What that chain prints: the sums up to 10, 20, 30 and 40.
+const CHAIN_PRINTED: &str = "snk1 55\nsnk1 210\nsnk1 465\nsnk1 820\nfirings 164\nend quiescent\n";
+
 /// How many line feeds the bytes have.
 fn line_count(bytes: &[u8]) -> usize {
     bytes.iter().filter(|byte| **byte == b'\n').count()
@@ -91,6 +94,9 @@ fn the_plain_machine_prints(rt: HostRuntime) -> Result<(), Fail> {
             "src : std.Counter()",
             "firings 100\nend spent\n",
         ),
+        // the first generated chain, by either machine
+        (["solo"].as_slice(), FIRST, CHAIN_PRINTED),
+        (["run"].as_slice(), FIRST, CHAIN_PRINTED),
         (
             ["solo"].as_slice(),
             "a : std.Identity()a.token > a.token",
