@@ -1,7 +1,13 @@
+pub mod Among
 pub mod ArgumentRows
 pub mod Closing
 pub mod Declared
+pub mod Gathering
+pub mod Leading
 pub mod Lookups
+pub mod Making
+pub mod Meeting
+pub mod Places
 pub mod Roots
 pub mod Running
 pub mod Unless

@@ -1,3 +1,4 @@
+pub mod Bodies
 pub mod Components
 pub mod Heads
 pub mod Lookup

@@ -1,8 +1,9 @@
 //! A script expanded: its components inlined, its names replaced by what they stand for.
 
 ghost use Rattle.cv_expand.specs.Meaning.{meaning};
-ghost use Rattle.std.specs.Prelude.{◌≡◌};
+ghost use Rattle.std.specs.Prelude.{◌≡◌, IfOk};
 ghost use Rattle.cv_expand.specs.Runs.{Answers, nothing};
+ghost use Rattle.cv_expand.specs.Bodies.{Distinct, IsMadeOf, paths};
 
 use crate::checking::{check_components, check_rules};
 use crate::components::Components;
@@ -19,6 +20,8 @@ use std::alloc::Global;
 /// meets: those of the constants, then of the components, then of the rules, then of the root's statements.
 pub fn expand(alloc: Global, script: &Script) -> Result<Parts, ExpandFault>
     ensures exact { Answers result (meaning (script.now).items) }
+    ensures made { IfOk result (λ parts. IsMadeOf (script.now).items parts) }
+    ensures distinct { IfOk result (λ parts. Distinct (paths parts)) }
 {
     let items = script.items.as_slice();
     let defines = constants(alloc, items)?;
