@@ -2,6 +2,7 @@
 
 use super::*;
 use cv_token::{ActorId, AppId, ConnId};
+use std::alloc::{AllocFailed, Global};
 use std::process::Abort;
 use std::test::Fail;
 
@@ -36,45 +37,74 @@ impl Change<u64> for Raise {
     }
 }
 
+/// A table with two actors of each application, whose values tell application and actor.
+fn filled(alloc: Global) -> Result<ActorTable<u64>, AllocFailed<u64>> {
+    let mut table = ActorTable::new(alloc);
+    for (place, app) in APPS.iter().enumerate() {
+        let value = place as u64 * 1000;
+        table.insert(
+            ActorId {
+                app: *app,
+                actor: 300,
+            },
+            value + 300,
+        )?;
+        table.insert(
+            ActorId {
+                app: *app,
+                actor: 4,
+            },
+            value + 4,
+        )?;
+    }
+    Ok(table)
+}
+
+const FIRST: ActorId = ActorId {
+    app: AppId { node: 1, seq: 2 },
+    actor: 4,
+};
+
+const LAST: ActorId = ActorId {
+    app: AppId { node: 2, seq: 1 },
+    actor: 300,
+};
+
 #[test]
 fn actors_stand_in_order(rt: HostRuntime) -> Result<(), Fail> {
-    let mut table = ActorTable::new(rt.alloc());
+    let mut table = filled(rt.alloc())?;
     table.reserve(6)?;
-    for (place, app) in APPS.iter().enumerate() {
-        for actor in [300, 4] {
-            let value = place as u64 * 1000 + u64::from(actor);
-            assert!(&rt; table.insert(ActorId { app: *app, actor }, value)?.is_none());
-        }
-    }
-    let first = ActorId {
-        app: APPS[2],
-        actor: 4,
-    };
     assert_eq!(&rt; table.len(), 6);
-    assert!(&rt; table.key_at(0) == Some(first));
-    assert!(&rt;
-        table.key_at(5)
-            == Some(ActorId {
-                app: APPS[0],
-                actor: 300
-            })
-    );
+    assert!(&rt; table.key_at(0) == Some(FIRST));
+    assert!(&rt; table.key_at(5) == Some(LAST));
     assert!(&rt; table.key_at(6).is_none());
-    table.change_all(&Raise { by: 5 });
-    is_value(&rt, table.get(first), 2009);
-    if let Some(value) = table.get_mut(first) {
-        *value = 1;
-    }
-    assert!(&rt; table.insert(first, 2)? == Some(1));
-    table.drop_app(APPS[1]);
-    assert_eq!(&rt; table.len(), 4);
-    assert!(&rt; table.remove(first) == Some(2));
-    assert!(&rt; table.get(first).is_none());
     Ok(())
 }
 
 #[test]
-fn the_others_stand_in_order(rt: HostRuntime) -> Result<(), Fail> {
+fn actors_change(rt: HostRuntime) -> Result<(), Fail> {
+    let mut table = filled(rt.alloc())?;
+    table.change_all(&Raise { by: 5 });
+    is_value(&rt, table.get(FIRST), 2009);
+    if let Some(value) = table.get_mut(FIRST) {
+        *value = 1;
+    }
+    assert!(&rt; table.insert(FIRST, 2)? == Some(1));
+    Ok(())
+}
+
+#[test]
+fn actors_go(rt: HostRuntime) -> Result<(), Fail> {
+    let mut table = filled(rt.alloc())?;
+    table.drop_app(APPS[1]);
+    assert_eq!(&rt; table.len(), 4);
+    assert!(&rt; table.remove(FIRST) == Some(2004));
+    assert!(&rt; table.get(FIRST).is_none());
+    Ok(())
+}
+
+#[test]
+fn applications_stand_in_order(rt: HostRuntime) -> Result<(), Fail> {
     let mut apps = AppTable::new(rt.alloc());
     apps.reserve(3)?;
     for (place, app) in APPS.iter().enumerate() {
@@ -83,6 +113,11 @@ fn the_others_stand_in_order(rt: HostRuntime) -> Result<(), Fail> {
     assert_eq!(&rt; apps.len(), 3);
     assert!(&rt; apps.key_at(0) == Some(APPS[2]));
     is_value(&rt, apps.get(APPS[1]), 1);
+    Ok(())
+}
+
+#[test]
+fn connections_stand_in_order(rt: HostRuntime) -> Result<(), Fail> {
     let mut conns = ConnTable::new(rt.alloc());
     conns.reserve(2)?;
     for place in [7, 3] {
@@ -95,6 +130,11 @@ fn the_others_stand_in_order(rt: HostRuntime) -> Result<(), Fail> {
     }
     assert_eq!(&rt; conns.len(), 2);
     assert!(&rt; conns.key_at(2).is_none());
+    Ok(())
+}
+
+#[test]
+fn nodes_stand_in_order(rt: HostRuntime) -> Result<(), Fail> {
     let mut nodes = NodeTable::new(rt.alloc());
     nodes.reserve(2)?;
     assert!(&rt; nodes.insert(9, 90u64)?.is_none());
