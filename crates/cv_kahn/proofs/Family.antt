@@ -1,5 +1,6 @@
 -- A family: what each actor of a network makes alone, of what the others give it.
 use Rattle.std.proofs.Common.{◌≡◌, ℕ, suc, ◌+◌, ◌==◌, ◌&&◌, Bool, true, false, if◌then◌else◌, List, [], ◌∷◌, ◌++◌, slice_get, Some, ◌⊎◌, inl, inr, refl, ap, sym, ◌∙◌, subst, arith, eqb-true}
+use Rattle.std.proofs.lemmas.Bool.{and_parts}
 use Rattle.std.proofs.lemmas.List.{append-nil}
 use Rattle.cv_token.specs.declared.token.Token.{Token}
 use Rattle.cv_behave.specs.KindRow.{Deterministic, given_at}
@@ -52,13 +53,8 @@ pub both_if : {X Y : Type 0} (P : X → Y → Type 0) (test : Bool) (v u : X) (w
 both_if P true v u w z holds fails = holds refl
 both_if P false v u w z holds fails = fails refl
 
-pub both_parts : (p q : Bool) → (p && q) ≡ true → (p ≡ true) × (q ≡ true)
-both_parts true true e = (refl, refl)
-both_parts true false e = cc
-both_parts false q e = cc
-
 pub same_ends : (j : Join) (a port : ℕ) → ((j.to == a) && (j.inp == port)) ≡ true → (j.to ≡ a) × (j.inp ≡ port)
-same_ends j a port test = let parts = both_parts (j.to == a) (j.inp == port) test in (eqb-true j.to a parts.0, eqb-true j.inp port parts.1)
+same_ends j a port test = let parts = and_parts (j.to == a) (j.inp == port) test in (eqb-true j.to a parts.0, eqb-true j.inp port parts.1)
 
 -- ---- what is given to an inport
 

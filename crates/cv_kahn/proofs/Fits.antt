@@ -2,8 +2,9 @@
 use Rattle.std.proofs.Common.{◌≡◌, ℕ, zero, suc, ◌+◌, ◌-◌, ◌≤◌, ◌<◌, min, ◌==◌, ◌&&◌, Bool, true, false, if◌then◌else◌, List, [], ◌∷◌, ◌++◌, length, drop, replicate, slice_get, slice_set, unwrap_or, option_and_then, Option, Some, None, refl, ap, sym, ◌∙◌, subst, arith, eqb-true, length-drop}
 use borrow.Author.Tests.{eqb-false}
 use Rattle.std.proofs.lemmas.Bool.{eq-eqb}
-use Rattle.std.proofs.lemmas.List.{length-map}
-use Rattle.std.proofs.lemmas.Option.{slice_get_within}
+use Rattle.std.proofs.lemmas.List.{get_or-set_other, get_or-set_same, length-map, length-set}
+use Rattle.std.proofs.lemmas.Option.{slice_get_within, unwrap_or-slice_get}
+use Rattle.std.proofs.Math.Seq.{drop-nil}
 use Rattle.cv_token.specs.declared.token.Token.{Token}
 use Rattle.cv_behave.specs.declared.behave.Effect.{Effect}
 use Rattle.cv_behave.specs.KindRow.{effect_of, heads_of, is_ready, needed}
@@ -33,12 +34,8 @@ pub record Fits (net : Net) (r : Runtime) (x : ℕ → Local) : Type 0 where
 
 -- ---- the runtime's inputs are the family's
 
-drop_nothing : (n : ℕ) → drop {A = Token} n [] ≡ []
-drop_nothing zero = refl
-drop_nothing (suc n) = refl
-
 waits : (net : Net) (x : ℕ → Local) (a port c : ℕ) (js : List Join) (ss : List Stream) → Carries net x c js ss → waiting js ss a port ≡ drop ((x a).took port) (fed_from net c js x a port)
-waits net x a port c [] [] carries = sym (drop_nothing ((x a).took port))
+waits net x a port c [] [] carries = sym (drop-nil ((x a).took port))
 waits net x a port c [] (s ∷ ss) carries = absurd carries
 waits net x a port c (j ∷ js) [] carries = absurd carries
 waits net x a port c (j ∷ js) (s ∷ ss) carries =
@@ -145,23 +142,6 @@ pub and_then_some : {X Y : Type 0} (f : X → Option Y) (o : Option X) (y : Y) �
 and_then_some f None y found = cc
 and_then_some f (Some x) y found = (x, refl, found)
 
-set_same : (xs : List (List Token)) (i : ℕ) (y : List Token) → i < length xs → unwrap_or (slice_get (slice_set xs i y) i) [] ≡ y
-set_same [] i y within = absurd (omega arith)
-set_same (z ∷ xs) zero y within = refl
-set_same (z ∷ xs) (suc i) y within = let less : i < length xs = omega arith in set_same xs i y less
-
-set_other : (xs : List (List Token)) (i j : ℕ) (y : List Token) → (j ≡ i → ⊥) → unwrap_or (slice_get (slice_set xs i y) j) [] ≡ unwrap_or (slice_get xs j) []
-set_other [] i j y apart = refl
-set_other (z ∷ xs) zero zero y apart = absurd (apart refl)
-set_other (z ∷ xs) zero (suc j) y apart = refl
-set_other (z ∷ xs) (suc i) zero y apart = refl
-set_other (z ∷ xs) (suc i) (suc j) y apart = set_other xs i j y (λ e. apart (ap suc e))
-
-length_set : (xs : List (List Token)) (i : ℕ) (y : List Token) → length (slice_set xs i y) ≡ length xs
-length_set [] i y = refl
-length_set (z ∷ xs) zero y = refl
-length_set (z ∷ xs) (suc i) y = ap suc (length_set xs i y)
-
 -- the runtime after a firing, of which the effect is known
 abbrev pub after_effect : Net → Runtime → ℕ → ActorSpec → ℕ → Effect → Runtime
 after_effect net r a spec k done = record { slots = slice_set r.slots a done.state; streams = streams_after spec a k done.out net.connections r.streams }
@@ -171,10 +151,10 @@ fits_after net r x a k spec wired fits is ready =
     let done : Effect = does spec (fed net x a) (x a) k in
     let within : a < length r.slots = subst (λ (n : ℕ). a < n) (sym fits.all) (slice_get_within net.actors a spec is) in
     record {
-      all = length_set r.slots a done.state ∙ fits.all;
+      all = length-set r.slots a done.state ∙ fits.all;
       slots = λ b. if_case (λ (v : Local). slots_of (after_effect net r a spec k done) b ≡ v.slots) (b == a) (next spec (fed net x a) (x a) k) (x b)
-          (λ test. subst (λ (i : ℕ). unwrap_or (slice_get (slice_set r.slots a done.state) i) [] ≡ done.state) (sym (eqb-true b a test)) (set_same r.slots a done.state within))
-          (λ test. set_other r.slots a b done.state (eqb-false b a test) ∙ fits.slots b);
+          (λ test. subst (λ (i : ℕ). unwrap_or (slice_get (slice_set r.slots a done.state) i) [] ≡ done.state) (sym (eqb-true b a test)) (unwrap_or-slice_get (slice_set r.slots a done.state) a [] ∙ get_or-set_same r.slots a done.state [] within))
+          (λ test. unwrap_or-slice_get (slice_set r.slots a done.state) b [] ∙ get_or-set_other r.slots a b done.state [] (eqb-false b a test) ∙ sym (unwrap_or-slice_get r.slots b []) ∙ fits.slots b);
       streams = carried net x a k 0 spec net.connections r.streams
           (in_all net (λ e j. j.to ≡ a → needed (row_of spec.kind) spec.args k j.inp ≤ length (sent net e j x) - (x j.to).took j.inp) (λ c j found to. needs_there net x a k c spec j wired is ready found to))
           fits.streams;

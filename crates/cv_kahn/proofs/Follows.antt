@@ -1,6 +1,6 @@
 -- One state of the one runtime follows another: each actor of a region gets from where it is in the first to where it is in
 -- the second by firings of its own, over what the second wrote.
-use Rattle.std.proofs.Common.{◌≡◌, ℕ, zero, suc, ◌+◌, ◌≤◌, ◌<◌, true, List, [], ◌∷◌, length, slice_get, Some, ◌⊎◌, inl, inr, refl, sym, ◌∙◌, subst, arith}
+use Rattle.std.proofs.Common.{◌≡◌, ℕ, zero, suc, ◌+◌, ◌≤◌, ◌<◌, true, List, [], ◌∷◌, length, slice_get, Some, ◌⊎◌, inl, inr, refl, sym, ◌∙◌, subst, arith, ⊎_elim}
 use Rattle.std.proofs.lemmas.Bool.{cases_lt}
 use Rattle.std.proofs.lemmas.Option.{slice_get_within}
 use Rattle.cv_kinds.specs.declared.network.ActorSpec.{ActorSpec}
@@ -91,19 +91,16 @@ both_turn_by : (net : Net) (D : ℕ → Type 0) (r s next : Runtime) (b k : ℕ)
 both_turn_by net D r s next b k wired region f e (inl fired) = both_fire net D r s next (turn net s b) b k fired.0 wired region f e fired.1
 both_turn_by net D r s next b k wired region f e (inr idle) = subst (Follows net D next) (sym idle.0) (low_fires net D r s next b k wired region f e (λ leads. idle.1))
 
-here_or_later : {A B P : Type 0} → A ⊎ B → (A → P) → (B → P) → P
-here_or_later (inl a) left right = left a
-here_or_later (inr b) left right = right b
-
 -- the firing of the state behind is laid on that actor's turn
 both_turns : (net : Net) (D : ℕ → Type 0) (r s next : Runtime) (b k from count : ℕ) → IsWired net → Region net D → Follows net D r s → fire net r b k ≡ Some next → from ≤ b → b < from + count → Follows net D next (turns net s from count)
 both_turns net D r s next b k from zero wired region f e past within = absurd (omega arith)
 both_turns net D r s next b k from (suc count) wired region f e past within =
-    here_or_later (cases_lt from b)
+    ⊎_elim
     (λ before. let less : b < suc from + count = omega arith in both_turns net D r (turn net s from) next b k (suc from) count wired region (high_turn_by net D r s from wired f (turned net s from)) e before less)
     (λ here.
     let same : b ≡ from = omega arith in
     high_turns net D next (turn net s from) (suc from) count wired (subst (λ (i : ℕ). Follows net D next (turn net s i)) same (both_turn_by net D r s next b k wired region f e (turned net s b))))
+    (cases_lt from b)
 
 -- ---- rounds and runs
 
