@@ -7,6 +7,8 @@ use std::alloc::{AllocError, Global};
 use std::thread::Threads;
 
 #[cfg(test)]
+mod agreeing;
+#[cfg(test)]
 mod commands;
 #[cfg(test)]
 mod networks;
