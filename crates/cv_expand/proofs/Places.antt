@@ -55,14 +55,6 @@ good_nothing path F = record { each = λ p h. absurd h; distinct = tt }
 
 -- ---- lists of steps
 
-head_of : Step → List Step → Step
-head_of d [] = d
-head_of d (s ∷ r) = s
-
-tail_of : List Step → List Step
-tail_of [] = []
-tail_of (s ∷ r) = r
-
 same_step : (path : List Step) (a b : Step) (r q : List Step) → path ++ a ∷ r ≡ path ++ b ∷ q → a ≡ b
 same_step [] a b r q e = cc
 same_step (s ∷ path) a b r q e = same_step path a b r q cc
