@@ -69,6 +69,16 @@ has_fit t = is_token t && (nat_le (depth t) 16 && nat_le (length (spelling t)) 1
 abbrev pub fitted : Token → Token
 fitted t = if has_fit t then t else token.Null
 
+abbrev pub all_fit : List Token → Bool
+all_fit [] = true
+all_fit (t ∷ ts) = has_fit t && all_fit ts
+
+-- each token that is given fits
+abbrev pub given_fit : List (Option Token) → Bool
+given_fit [] = true
+given_fit (None ∷ out) = given_fit out
+given_fit (Some t ∷ out) = has_fit t && given_fit out
+
 -- ---- equality of trees
 
 abbrev pub same_bool : Bool → Bool → Bool

@@ -91,7 +91,7 @@ token_or_null (Ok t) = t
 token_or_null (Err e) = token.Null
 
 abbrev pub parsed_of : Token → Token
-parsed_of (token.Text s) = token_or_null (reading s)
+parsed_of (token.Text s) = fitted (token_or_null (reading s))
 parsed_of _ = token.Null
 
 -- the value of a key, or null

@@ -1,6 +1,7 @@
 //! Tokens and their JSON text.
 
-ghost use Rattle.std.specs.Prelude.{◌≡◌, IfOk};
+ghost use Rattle.std.specs.Prelude.{◌≡◌, true, IfOk};
+ghost use Rattle.cv_behave.specs.Values.{has_fit};
 ghost use Rattle.cv_calc.specs.Values.{text_of, parsed_of, token_or_null, value_at, element_at, got_of};
 ghost use Rattle.cv_token.specs.Reading.{reading};
 
@@ -17,8 +18,11 @@ pub(crate) fn text_token(alloc: Global, a: &Token) -> Result<Token, OutOfMemory>
     Ok(fitting(Token::Text(text)))
 }
 
+/// The token of a JSON text, or null where it is none's.
+#[tactic(auto, using(cv_behave::proofs::Fitting::from_bounds, cv_behave::proofs::Fitting::null_fits))]
 fn read_or_null(alloc: Global, bytes: &[u8]) -> Result<Token, OutOfMemory>
-    ensures { IfOk result (λ t. t ≡ token_or_null (reading bytes.now)) }
+    ensures value { IfOk result (λ t. t ≡ token_or_null (reading bytes.now)) }
+    ensures fits { IfOk result (λ t. has_fit t ≡ true) }
 {
     match read(alloc, bytes) {
         Ok(token) => Ok(token),
@@ -30,6 +34,7 @@ fn read_or_null(alloc: Global, bytes: &[u8]) -> Result<Token, OutOfMemory>
 }
 
 /// The token of a Text, or null where the Text is none's.
+#[tactic(auto, using(cv_behave::proofs::Fitting::fitted_itself))]
 pub(crate) fn parsed(alloc: Global, a: &Token) -> Result<Token, OutOfMemory>
     ensures { IfOk result (λ t. t ≡ parsed_of a.now) }
 {

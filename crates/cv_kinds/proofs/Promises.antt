@@ -1,12 +1,10 @@
 -- What holds of the rows of all kinds.
-use Rattle.std.proofs.Common.{◌≡◌, ◌≢◌, ◌↔◌, ◌≤◌, ◌<◌, ◌+◌, ℕ, suc, Bool, true, false, ◌==◌, List, [], ◌∷◌, length, Option, Some, None, refl, sym, ap, ◌∙◌, subst, arith, lit≤, lit<, if◌then◌else◌, eqb-true, IfSome}
+use Rattle.std.proofs.Common.{◌≡◌, ◌≢◌, ◌↔◌, ◌≤◌, ◌<◌, ◌+◌, ℕ, suc, Bool, true, false, ◌==◌, List, [], ◌∷◌, length, Option, refl, sym, ap, ◌∙◌, subst, arith, lit≤, lit<, if◌then◌else◌, eqb-true, IfSome}
 use Rattle.std.specs.Prelude.{IsTrue}
 use Rattle.cv_token.specs.declared.token.Token.{Token}
-use Rattle.cv_behave.specs.KindRow.{Action, Row, action_count, effect_of, for_action, guard_holds, Deterministic, GivesItsTokens, StaysReady}
-use Rattle.cv_behave.proofs.Giving.{gives, one_gives}
+use Rattle.cv_behave.specs.KindRow.{Action, Row, action_count, effect_of, for_action, given, guard_holds, Deterministic, GivesItsTokens, StaysReady}
+use Rattle.cv_behave.proofs.Giving.{all_give_few, given_few, gives, one_gives}
 use Rattle.cv_behave.proofs.Ready.{stays_ready}
-use Rattle.cv_calc.specs.declared.kind.CalcKind.{CalcKind}
-use Rattle.cv_calc.specs.declared.kind.CalcKind.TheVariants as calc
 use Rattle.cv_calc.specs.Rows.{row_of as calc_row}
 use Rattle.cv_flow.specs.declared.kind.FlowKind.{FlowKind}
 use Rattle.cv_flow.specs.declared.kind.FlowKind.TheVariants as flow
@@ -48,6 +46,15 @@ pub few_actions : (k : Kind) → action_count (row_of k) ≤ 4
 unfolding row_of
 few_actions (kind.Flow k) = flow_few k
 few_actions (kind.Calc k) = lit≤ tt
+
+flow_gives_few : (k : FlowKind) → all_give_few (flow_row k).actions ≡ true
+flow_gives_few flow.Constant = refl
+flow_gives_few k = refl
+
+pub gives_few : (k : Kind) (action port : ℕ) → given (row_of k) action port ≤ 1
+unfolding row_of
+gives_few (kind.Flow k) action port = given_few (flow_row k) action port (flow_gives_few k)
+gives_few (kind.Calc k) action port = given_few (calc_row k) action port refl
 
 -- past the last action nothing holds
 holds_if : (b : Bool) (x rest : Bool) (P : Type 0) → (if b then x else rest) ≡ true → (b ≡ true → P) → (rest ≡ true → P) → P

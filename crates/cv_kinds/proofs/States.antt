@@ -1,5 +1,5 @@
 -- States that are none of a kind.
-use Rattle.std.proofs.Common.{◌≡◌, ℕ, suc, Bool, true, false, ◌&&◌, List, [], ◌∷◌, length, refl, ap, ◌∙◌}
+use Rattle.std.proofs.Common.{◌≡◌, suc, Bool, true, false, ◌&&◌, List, [], ◌∷◌, length, refl, ap, ◌∙◌}
 use Rattle.cv_token.specs.declared.token.Token.{Token}
 use Rattle.cv_behave.specs.Values.{has_fit}
 use Rattle.cv_kinds.specs.declared.table.Slot.{Slot}

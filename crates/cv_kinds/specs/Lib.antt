@@ -1,4 +1,5 @@
 pub mod Arguments
+pub mod Kept
 pub mod KindRow
 pub mod Names
 pub mod Net

@@ -1,5 +1,5 @@
 -- What tokens are of a sort, and when a state has the slots of its kind.
-use Rattle.std.specs.Prelude.{ℕ, ℤ, pos, Bool, true, false, not, ◌&&◌, ◌||◌, nat_le, int_lt, List, [], ◌∷◌, length, Option, Some, None, is_some, codes}
+use Rattle.std.specs.Prelude.{ℕ, ℤ, pos, Bool, true, false, not, ◌&&◌, ◌||◌, nat_le, int_lt, List, [], ◌∷◌, length, Option, Some, is_some, codes}
 use Rattle.std.specs.Str.{bytes_eq}
 use Rattle.cv_token.specs.declared.token.Token.{Token}
 use Rattle.cv_token.specs.declared.token.Token.TheVariants as token

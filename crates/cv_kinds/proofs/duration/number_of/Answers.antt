@@ -1,4 +1,4 @@
-use Rattle.std.proofs.Common.{◌≡◌, ◌≤◌, ◌+◌, ◌-◌, ◌*◌, ◌∙◌, ℕ, min, get_or, sym, arith, rules}
+use Rattle.std.proofs.Common.{arith, rules}
 use Rattle.cv_kinds.specs.declared.duration.TheConstants.{ABOVE}
 use Rattle.cv_kinds.proofs.Givens.{next_digit}
 use Rattle.cv_kinds.proofs.duration.number_of.Goals as goal

@@ -1,4 +1,4 @@
-use Rattle.std.proofs.Common.{◌≡◌, ◌∙◌, ap, List, ℕ, subst, Some}
+use Rattle.std.proofs.Common.{◌≡◌, ◌∙◌, List, ℕ, subst, Some}
 use Rattle.cv_kinds.specs.Names.{all_kinds, first_named}
 use Rattle.cv_kinds.proofs.Lines.{found_has, itself}
 use Rattle.cv_kinds.proofs.names.find.Goals as goal

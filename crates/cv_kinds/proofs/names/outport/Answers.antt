@@ -1,4 +1,4 @@
-use Rattle.std.proofs.Common.{◌≡◌, ◌≤◌, ◌<◌, IfSome, length, ℕ, sym, subst}
+use Rattle.std.proofs.Common.{◌≤◌, ◌<◌, IfSome, ℕ, sym, subst}
 use Rattle.cv_kinds.proofs.Lines.{as_many, outports_are, few_ports}
 use Rattle.cv_kinds.proofs.names.outport.Goals as goal
 
