@@ -10,7 +10,7 @@ use Rattle.cv_kinds.specs.KindRow.{row_of}
 use Rattle.cv_kinds.proofs.Lines.{inport_within, outport_within}
 use Rattle.cv_kinds.specs.Names.{inport_named, outport_named}
 use Rattle.cv_kinds.specs.Net.{Net}
-use Rattle.cv_kinds.specs.Wired.{HasInport, HasOutport, IsWired, Joins}
+use Rattle.cv_kinds.specs.Wired.{HasInport, HasOneReader, HasOutport, IsWired, Joins}
 use Rattle.cv_syntax.specs.declared.tree.Source.{Source}
 use Rattle.cv_syntax.specs.declared.tree.Source.TheVariants as sources
 use Rattle.cv_syntax.specs.declared.tree.Target.{Target}
@@ -194,19 +194,22 @@ wired_by actors script written js joined is = record {
   producers = λ c j at. (all_join actors script written j joined (joined_at actors written js is.fed c j at)).producer;
   consumers = λ c j at. (all_join actors script written j joined (joined_at actors written js is.fed c j at)).consumer;
   one_writer = λ c d j k first second to inp. one_inport actors written js is.fed c d j k first second (omega (arith, to, inp));
-  one_reader = λ c d j k first second from out.
-      let same : j ≡ k = apart_same producer_key [] written j k is.apart (joined_at actors written js is.fed c j first) (joined_at actors written js is.fed d k second) (omega (arith, from, out)) in
-      one_inport actors written js is.fed c d j k first second (ap consumer_key same);
 }
 
-pub network_is_wired : (script : List Item) (net : Net) → network_of script ≡ Some net → IsWired net
+one_reader_by : (actors : List ActorSpec) (written js : List Join) → IsArranged actors written js → HasOneReader (record { actors = actors; connections = js })
+one_reader_by actors written js is c d j k first second from out =
+    let same : j ≡ k = apart_same producer_key [] written j k is.apart (joined_at actors written js is.fed c j first) (joined_at actors written js is.fed d k second) (omega (arith, from, out)) in
+    one_inport actors written js is.fed c d j k first second (ap consumer_key same)
+
+pub network_is_wired : (script : List Item) (net : Net) → network_of script ≡ Some net → IsWired net × HasOneReader net
 network_is_wired script net e =
     let declared = then_some (network_with script) (all_given actors_in script) net e in
     let actors = declared.0 in
     let checked = if_some (are_actors actors) (option_map (λ connections. record { actors = actors; connections = connections }) (option_and_then (arranged actors) (all_given (connections_in actors) script))) net declared.2 in
     let made = map_some (λ connections. record { actors = actors; connections = connections }) (option_and_then (arranged actors) (all_given (connections_in actors) script)) net checked.1 in
     let joined = then_some (arranged actors) (all_given (connections_in actors) script) made.0 made.1 in
-    subst IsWired made.2 (wired_by actors script joined.0 made.0 joined.1 (arranged_parts actors joined.0 made.0 joined.2))
+    let parts = arranged_parts actors joined.0 made.0 joined.2 in
+    subst (λ (n : Net). IsWired n × HasOneReader n) made.2 (wired_by actors script joined.0 made.0 joined.1 parts, one_reader_by actors joined.0 made.0 parts)
 
 -- where the parts of a script are of the form, its network is that of the parts
 pub network_found : (script : List Item) (actors : List ActorSpec) (o : Option (List Join)) → all_given actors_in script ≡ Some actors → are_actors actors ≡ true

@@ -8,7 +8,7 @@ use Rattle.cv_kinds.specs.declared.arguments.Given.{Given}
 use Rattle.cv_kinds.specs.declared.arguments.Given.TheVariants as given
 use Rattle.cv_kinds.specs.declared.kind.Kind.{Kind}
 use Rattle.cv_kinds.specs.Arguments.{arguments_of as arguments_for, fault_of}
-use Rattle.cv_kinds.specs.Table.{Parameter, entry_of}
+use Rattle.cv_kinds.specs.Table.{Parameter, line_of}
 use Rattle.cv_syntax.specs.declared.tree.Arg.{Arg}
 use Rattle.cv_syntax.specs.declared.tree.Value.{Value}
 use Rattle.cv_syntax.specs.declared.tree.Value.TheVariants as values
@@ -41,4 +41,4 @@ accepted ps given = if is_none (fault_of ps given) then Some (arguments_for ps g
 -- the arguments of an actor of the kind, where no parameter has two
 abbrev pub arguments_of : Kind → List Arg → Option (List Token)
 arguments_of k args =
-    if list_all (is_once args) (entry_of k).params then option_and_then (accepted (entry_of k).params) (all_given (λ a. one_of (argument_given a)) args) else None
+    if list_all (is_once args) (line_of k).params then option_and_then (accepted (line_of k).params) (all_given (λ a. one_of (argument_given a)) args) else None

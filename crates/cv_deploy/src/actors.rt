@@ -53,7 +53,7 @@ fn actor_of(alloc: Global, declare: &Declare) -> Result<Option<ActorSpec>, OutOf
     let Some(args) = arguments_of(alloc, kind, declare.args.as_slice())? else {
         return Ok(None)
     };
-    let path = declare.name.text.copy(alloc)?;
+    let path = declare.name.text.as_text().copy(alloc)?;
     Ok(Some(ActorSpec { path, kind, args }))
 }
 

@@ -2,7 +2,7 @@
 
 ghost use Rattle.std.specs.Prelude.{◌≡◌, ◌≤◌, [], map, length, IfOk, option_map};
 ghost use Rattle.std.specs.List.{list_all};
-ghost use Rattle.cv_kinds.specs.Table.{entry_of, taking};
+ghost use Rattle.cv_kinds.specs.Table.{line_of, taking};
 ghost use Rattle.cv_deploy.specs.Arguments.{accepted, argument_given, arguments_of, is_once, times, value_given};
 ghost use Rattle.cv_deploy.specs.Lists.{all_given, one_of, Adds};
 
@@ -17,7 +17,7 @@ use std::alloc::{AllocError, Global};
 pub fn arguments_of(alloc: Global, kind: Kind, args: &[Arg]) -> Result<Option<Items>, OutOfMemory>
     ensures { IfOk result (λ found. found ≡ arguments_of kind args.now) }
 {
-    if !are_once(kind.entry().params, args) {
+    if !are_once(kind.line().params, args) {
         return Ok(None);
     }
     let Some(given) = arguments_given(alloc, args)? else {
@@ -28,7 +28,7 @@ pub fn arguments_of(alloc: Global, kind: Kind, args: &[Arg]) -> Result<Option<It
 
 /// The arguments that the kind makes of what is given, where nothing is wrong with it.
 fn accepted(alloc: Global, kind: Kind, given: &ArgList) -> Result<Option<Items>, OutOfMemory>
-    ensures { IfOk result (λ found. found ≡ accepted (entry_of kind).params given.now) }
+    ensures { IfOk result (λ found. found ≡ accepted (line_of kind).params given.now) }
 {
     match check_args(alloc, kind, given) {
         Ok(args) => Ok(Some(args)),
@@ -82,7 +82,7 @@ fn give(alloc: Global, arg: &Arg, given: &mut ArgList) -> Result<bool, OutOfMemo
     let Some(value) = value_given(alloc, &arg.value)? else {
         return Ok(false)
     };
-    let name = arg.name.text.copy(alloc)?;
+    let name = arg.name.text.as_text().copy(alloc)?;
     given.push(Argument { name, value })?;
     Ok(true)
 }

@@ -2,7 +2,7 @@
 
 ghost use Rattle.std.specs.Prelude.{◌≡◌, ◌≤◌, ◌^◌, length, IfOk, IfErr, None};
 ghost use Rattle.cv_kinds.specs.Net.{Net};
-ghost use Rattle.cv_kinds.specs.Wired.{IsWired};
+ghost use Rattle.cv_kinds.specs.Wired.{HasOneReader, IsWired};
 ghost use Rattle.cv_deploy.specs.Faults.{Means, SpellsScript, Gives, Refuses, IsCaused, first_fault};
 ghost use Rattle.cv_deploy.specs.declared.fault.Code.TheVariants as code;
 ghost use Rattle.cv_syntax.specs.declared.tree.Script.{Script};
@@ -40,6 +40,7 @@ pub fn compile(alloc: Global, bytes: &[u8]) -> Result<Network, NoNetwork>
     // What is answered is the network that the bytes mean, and its connections join ports that are there.
     ensures found { IfOk result (Means bytes.now) }
     ensures wired { IfOk result IsWired }
+    ensures one_reader { IfOk result HasOneReader }
     // Bytes that mean a network are answered with it, unless memory runs out.
     ensures only { (net : Net) → Means bytes.now net → Gives result net }
     // A fault is the bytes', at its place.

@@ -2,11 +2,13 @@ pub mod Among
 pub mod ArgumentRows
 pub mod Closing
 pub mod Declared
+pub mod Few
 pub mod Gathering
 pub mod Leading
 pub mod Lookups
 pub mod Making
 pub mod Meeting
+pub mod PathTexts
 pub mod Places
 pub mod Roots
 pub mod Running

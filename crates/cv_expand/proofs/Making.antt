@@ -10,13 +10,15 @@ use Rattle.cv_expand.specs.declared.flat.Given.{Given}
 use Rattle.cv_expand.specs.declared.path.Step.{Step}
 use Rattle.cv_expand.specs.declared.flat.Parts.{Parts}
 use Rattle.cv_expand.specs.declared.setting.World.{World}
-use Rattle.cv_expand.specs.Walk.{Event, repeat_faults, bad, actor_met, instance_met, feed_met, root_spot, walk}
+use Rattle.cv_expand.specs.Walk.{Event, repeat_faults, bad, bads, actor_met, instance_met, feed_met, root_spot, walk}
 use Rattle.cv_expand.specs.Components.{components_in}
 use Rattle.cv_expand.specs.Heads.{defines_in, rule_names, statements_in, constants_from, define_faults, component_faults}
 use Rattle.cv_expand.specs.Meaning.{world_of, root_faults, meaning}
 use Rattle.cv_expand.specs.Runs.{run, nothing, unless, Answers}
 use Rattle.cv_expand.specs.Bodies.{Among, Distinct, at_root, LeadsTo, IsMadeOf, paths}
+use Rattle.cv_expand.specs.Flat.{IsFlat}
 use Rattle.cv_expand.proofs.Among.{Distinct-append}
+use Rattle.cv_expand.proofs.Few.{few_made}
 use Rattle.cv_expand.proofs.Meeting.{Has, met_where_led}
 use Rattle.cv_expand.proofs.Leading.{NoBad, from_the_root, there}
 use Rattle.cv_expand.proofs.Gathering.{gather, gathered, Among-gather, actor_in, instance_in, feed_in, is_actor, is_instance, is_feed, grown, no_bad, none_in_front}
@@ -135,6 +137,6 @@ pub answer_made : (script : List Item) (r : Result Parts ExpandFault) → Answer
 answer_made script (Ok parts) e = made_of script parts e
 answer_made script (Err fault) e = tt
 
-pub answer_distinct : (script : List Item) (r : Result Parts ExpandFault) → Answers r (meaning script) → IfOk r (λ parts. Distinct (paths parts))
-answer_distinct script (Ok parts) e = distinct_of script parts e
-answer_distinct script (Err fault) e = tt
+pub answer_flat : (script : List Item) (r : Result Parts ExpandFault) → Answers r (meaning script) → IfOk r IsFlat
+answer_flat script (Ok parts) e = record { few = few_made (bads (root_faults script) ++ walk (world_of script) root_spot (statements_in script)) parts e; distinct = distinct_of script parts e }
+answer_flat script (Err fault) e = tt

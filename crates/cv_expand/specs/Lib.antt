@@ -1,7 +1,9 @@
 pub mod Bodies
 pub mod Components
+pub mod Flat
 pub mod Heads
 pub mod Lookup
 pub mod Meaning
+pub mod Paths
 pub mod Runs
 pub mod Walk

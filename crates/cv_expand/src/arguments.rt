@@ -10,9 +10,10 @@ use crate::fault::ExpandFault;
 use crate::flat::{Argument, Given};
 use crate::named::Named;
 use crate::setting::{Spot, World};
+use cv_lex::NameText;
 use cv_readers::Name;
 use cv_syntax::{Arg, Join, Source, Value};
-use cv_token::{OutOfMemory, Text};
+use cv_token::OutOfMemory;
 use sqlite_items::Items;
 use std::alloc::Global;
 
@@ -21,7 +22,7 @@ fn given_named(
     alloc: Global,
     world: &World<'_>,
     spot: &Spot,
-    name: &Text,
+    name: &NameText,
 ) -> Result<Option<Given>, OutOfMemory>
     ensures { IfOk result (λ given. given ≡ given_named world.now spot.now name.now) }
 {
@@ -70,7 +71,7 @@ pub(crate) fn source_given(
 }
 
 /// Whether a component has an argument of a name; a kind is asked later.
-fn takes(places: Option<&Places>, name: &Text) -> bool
+fn takes(places: Option<&Places>, name: &NameText) -> bool
     ensures { result ≡ takes (option_map (λ p. p.now) places.entry) name.now }
 {
     match places {
@@ -126,7 +127,7 @@ pub(crate) fn values_of(alloc: Global, args: &[Argument]) -> Result<Named<Given>
     let mut values = Named::new(alloc);
     for arg in args {
         let given = copy_given(alloc, &arg.given)?;
-        values = values.with(alloc, arg.name.text.copy(alloc)?, given)?;
+        values = values.with(alloc, arg.name.text.as_text().copy(alloc)?, given)?;
     }
     Ok(values)
 }
@@ -137,7 +138,7 @@ pub(crate) fn places_of(alloc: Global, names: &[Name]) -> Result<Places, OutOfMe
 {
     let mut places = Places::new(alloc);
     for name in names {
-        places = places.with(alloc, name.text.copy(alloc)?, name.at)?;
+        places = places.with(alloc, name.text.as_text().copy(alloc)?, name.at)?;
     }
     Ok(places)
 }

@@ -26,7 +26,7 @@ pub(crate) fn note(alloc: Global, names: Places, name: &Name) -> Result<Places, 
     if names.has(name.text.as_str()) {
         return Err(ExpandFault::DoubleName { at: name.at });
     }
-    Ok(names.with(alloc, name.text.copy(alloc)?, name.at)?)
+    Ok(names.with(alloc, name.text.as_text().copy(alloc)?, name.at)?)
 }
 
 /// That no name stands twice.

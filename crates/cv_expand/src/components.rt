@@ -69,7 +69,7 @@ fn places_of(alloc: Global, script: &[Item]) -> Result<Named<usize>, OutOfMemory
     let mut places = Named::new(alloc);
     for (place, item) in script.iter().enumerate() {
         if let Item::Component(component) = item {
-            places = places.with(alloc, component.name.text.copy(alloc)?, place)?;
+            places = places.with(alloc, component.name.text.as_text().copy(alloc)?, place)?;
         }
     }
     Ok(places)

@@ -56,7 +56,7 @@ fn with_constant(
             at: value_place(define),
         });
     };
-    Ok(constants.with(alloc, define.name.text.copy(alloc)?, given)?)
+    Ok(constants.with(alloc, define.name.text.as_text().copy(alloc)?, given)?)
 }
 
 /// The constants of a script, each from those before it.

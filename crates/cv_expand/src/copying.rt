@@ -4,9 +4,10 @@ ghost use Rattle.std.specs.Prelude.{◌≡◌, [], ◌∷◌, ◌++◌, IfOk};
 ghost use Rattle.cv_expand.specs.Lookup.{has};
 
 use crate::flat::Given;
+use cv_lex::NameText;
 use cv_readers::Name;
 use cv_syntax::{Literal, Literals, Pairs, Target};
-use cv_token::{OutOfMemory, Pair, Text};
+use cv_token::{OutOfMemory, Pair};
 use sqlite_items::Items;
 use std::alloc::Global;
 
@@ -92,28 +93,28 @@ pub(crate) fn copy_target(alloc: Global, target: &Target) -> Result<Target, OutO
     }
 }
 
-/// Equal texts, with one more behind them.
-pub(crate) fn texts_with(
+/// Equal names, with one more behind them.
+pub(crate) fn names_with(
     alloc: Global,
-    texts: &[Text],
-    text: &Text,
-) -> Result<Items<Text>, OutOfMemory>
-    ensures { IfOk result (λ more. more ≡ texts.now ++ text.now ∷ []) }
+    names: &[NameText],
+    name: &NameText,
+) -> Result<Items<NameText>, OutOfMemory>
+    ensures { IfOk result (λ more. more ≡ names.now ++ name.now ∷ []) }
 {
     let mut more = Items::new(alloc);
-    for one in texts {
+    for one in names {
         more.push(one.copy(alloc)?)?;
     }
-    more.push(text.copy(alloc)?)?;
+    more.push(name.copy(alloc)?)?;
     Ok(more)
 }
 
-/// Whether a text stands in a list.
-pub(crate) fn has(texts: &[Text], name: &Text) -> bool
-    ensures { result ≡ has texts.now name.now }
+/// Whether a name stands in a list.
+pub(crate) fn has(names: &[NameText], name: &NameText) -> bool
+    ensures { result ≡ has names.now name.now }
 {
-    for text in texts {
-        if text.as_str() == name.as_str() {
+    for one in names {
+        if one.as_str() == name.as_str() {
             return true;
         }
     }

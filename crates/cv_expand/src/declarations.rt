@@ -5,12 +5,13 @@ ghost use Rattle.cv_expand.specs.Walk.{actor_met, argument_faults, actor_at, ins
 ghost use Rattle.cv_expand.specs.Runs.{Answers, run};
 
 use crate::arguments::{arguments, values_of};
-use crate::copying::{copy_names, texts_with};
+use crate::copying::{copy_names, names_with};
 use crate::fault::ExpandFault;
 use crate::flat::{Actor, Argument, Instance, Parts};
 use crate::path::{Path, Step, path_with};
 use crate::putting::put_actor;
 use crate::setting::{Spot, World};
+use cv_lex::NameText;
 use cv_syntax::{Component, Declare};
 use cv_token::{OutOfMemory, Text};
 use std::alloc::Global;
@@ -21,8 +22,8 @@ pub(crate) fn walk_actor(
     world: &World<'_>,
     spot: &Spot,
     declare: &Declare,
-    first: &Text,
-    second: &Text,
+    first: &NameText,
+    second: &NameText,
     flat: Parts,
 ) -> Result<Parts, ExpandFault>
     ensures { Answers result (run flat (bads (argument_faults world.now spot.now None (declare.now).args) ++ actor_met (actor_at world.now spot.now declare.now (dotted first.now second.now)) ∷ [])) }
@@ -43,7 +44,7 @@ pub(crate) fn walk_actor(
 }
 
 /// The name of a kind.
-fn dotted(alloc: Global, first: &Text, second: &Text) -> Result<Text, OutOfMemory>
+fn dotted(alloc: Global, first: &NameText, second: &NameText) -> Result<Text, OutOfMemory>
     ensures { IfOk result (λ kind. kind ≡ dotted first.now second.now) }
 {
     let (first, second) = (first.as_str(), second.as_str());
@@ -51,7 +52,7 @@ fn dotted(alloc: Global, first: &Text, second: &Text) -> Result<Text, OutOfMemor
 }
 
 /// The path of what is declared under a name.
-fn path_below(alloc: Global, spot: &Spot, name: &Text) -> Result<Path, OutOfMemory>
+fn path_below(alloc: Global, spot: &Spot, name: &NameText) -> Result<Path, OutOfMemory>
     ensures { IfOk result (λ path. path ≡ path_below spot.now name.now) }
 {
     path_with(alloc, &spot.path, Step::Name(name.copy(alloc)?))
@@ -62,7 +63,7 @@ pub(crate) fn instance_at(
     alloc: Global,
     spot: &Spot,
     declare: &Declare,
-    name: &Text,
+    name: &NameText,
     component: &Component,
 ) -> Result<Instance, OutOfMemory>
     ensures { IfOk result (λ instance. instance ≡ instance_at spot.now declare.now name.now component.now) }
@@ -84,12 +85,12 @@ pub(crate) fn inside(
     alloc: Global,
     spot: &Spot,
     declare: &Declare,
-    name: &Text,
+    name: &NameText,
     args: &[Argument],
 ) -> Result<Spot, OutOfMemory>
     ensures { IfOk result (λ inner. inner ≡ inside_with spot.now declare.now name.now args.now) }
 {
-    let opened = texts_with(alloc, spot.opened.as_slice(), name)?;
+    let opened = names_with(alloc, spot.opened.as_slice(), name)?;
     let path = path_below(alloc, spot, &declare.name.text)?;
     let values = values_of(alloc, args)?;
     Ok(Spot {

@@ -4,12 +4,13 @@ ghost use Rattle.cv_expand.specs.Meaning.{meaning};
 ghost use Rattle.std.specs.Prelude.{◌≡◌, IfOk};
 ghost use Rattle.cv_expand.specs.Runs.{Answers, nothing};
 ghost use Rattle.cv_expand.specs.Bodies.{Distinct, IsMadeOf, paths};
+ghost use Rattle.cv_expand.specs.Flat.{IsFlat};
 
 use crate::checking::{check_components, check_rules};
 use crate::components::Components;
 use crate::constants::constants;
 use crate::fault::ExpandFault;
-use crate::flat::Parts;
+use crate::flat::{Flat, Parts};
 use crate::setting::World;
 use crate::walking::walk_root;
 use cv_syntax::Script;
@@ -18,10 +19,19 @@ use std::alloc::Global;
 
 /// The actors, component instances and joins of a script in the order of its walk, or the first fault that the walk
 /// meets: those of the constants, then of the components, then of the rules, then of the root's statements.
-pub fn expand(alloc: Global, script: &Script) -> Result<Parts, ExpandFault>
+pub fn expand(alloc: Global, script: &Script) -> Result<Flat, ExpandFault>
+    ensures exact { Answers result (meaning (script.now).items) }
+    ensures made { IfOk result (λ flat. IsMadeOf (script.now).items flat) }
+    ensures distinct { IfOk result (λ flat. Distinct (paths flat)) }
+{
+    Ok(Flat::new(parts_of(alloc, script)?))
+}
+
+/// The same as parts alone.
+fn parts_of(alloc: Global, script: &Script) -> Result<Parts, ExpandFault>
     ensures exact { Answers result (meaning (script.now).items) }
     ensures made { IfOk result (λ parts. IsMadeOf (script.now).items parts) }
-    ensures distinct { IfOk result (λ parts. Distinct (paths parts)) }
+    ensures flat { IfOk result IsFlat }
 {
     let items = script.items.as_slice();
     let defines = constants(alloc, items)?;

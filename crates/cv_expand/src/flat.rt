@@ -1,10 +1,15 @@
 //! What a script is expanded to.
 
+ghost use Rattle.std.specs.Prelude.{◌≡◌};
+ghost use Rattle.cv_expand.specs.Flat.{IsFlat};
+
 use crate::path::{Path, Step};
+use cv_lex::NameText;
 use cv_readers::Name;
 use cv_syntax::{Literal, Target};
 use cv_token::Text;
 use sqlite_items::Items;
+use std::marker::Model;
 
 /// The value of an argument, with names replaced by what they stand for.
 #[derive(Drop)]
@@ -34,7 +39,7 @@ pub struct Actor {
 #[derive(Drop)]
 pub struct Instance {
     pub path: Path,
-    pub component: Text,
+    pub component: NameText,
     pub inports: Items<Name>,
     pub outports: Items<Name>,
     pub at: u32,
@@ -45,9 +50,9 @@ pub struct Instance {
 pub enum Origin {
     Void,
     /// An inport of the body's own instance.
-    Own(Text),
+    Own(NameText),
     /// An outport of what stands in the body one step further.
-    Port(Step, Text),
+    Port(Step, NameText),
 }
 
 /// A join to one target: the path of its body, its source with the source's place, its target with the target's place.
@@ -66,4 +71,44 @@ pub struct Parts {
     pub actors: Items<Actor>,
     pub instances: Items<Instance>,
     pub feeds: Items<Feed>,
+}
+
+/// A script with its components inlined: at most 256 actors and instances together, no two at one path, and at most 4,096
+/// joins. Contracts see its parts.
+#[derive(Drop)]
+pub struct Flat {
+    parts: Parts,
+}
+
+impl Model for Flat {
+    ghost use Rattle.std.specs.Coded.{codes};
+    ghost use Rattle.cv_syntax.specs.contracts.tree.Literal as literal;
+    ghost use Rattle.cv_expand.specs.declared.flat.Parts.{Parts};
+    ghost use Rattle.cv_expand.specs.Flat.{IsFlat};
+
+    ghost Value = { Parts };
+
+    ghost coded = { Prim.hlevel (codes, literal.the_row.coded) };
+
+    ghost view = { λ f. f.parts };
+
+    ghost invariant = { λ f. IsFlat f.parts };
+}
+
+impl Flat {
+    /// What these parts are; it takes no memory.
+    pub(crate) fn new(parts: Parts) -> Flat
+        requires { IsFlat parts }
+        ensures { result ≡ parts }
+    {
+        Flat { parts }
+    }
+
+    /// The parts.
+    pub fn parts(&self) -> &Parts
+        ensures value { result.now ≡ self.now }
+        ensures flat { IsFlat self.now }
+    {
+        &self.parts
+    }
 }

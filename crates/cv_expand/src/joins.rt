@@ -1,6 +1,7 @@
 //! Joins: the constants that values as sources make, and one feed for each target.
 
 ghost use Rattle.std.specs.Prelude.{◌≡◌, ◌<◌, ◌^◌, IfOk};
+ghost use Rattle.cv_lex.specs.Shapes.{IsName};
 ghost use Rattle.cv_expand.specs.Walk.{feed_met, constant_step, constant_args, constant_at, constant_events, origin_of, feed_at, feed_events, join_events};
 ghost use Rattle.cv_expand.specs.Runs.{Answers, run, take_in};
 
@@ -11,6 +12,7 @@ use crate::flat::{Actor, Argument, Feed, Given, Origin, Parts};
 use crate::path::{Step, copy_path, path_with};
 use crate::putting::{put_actor, put_feed};
 use crate::setting::{Seen, Spot, World};
+use cv_lex::NameText;
 use cv_readers::Name;
 use cv_syntax::{Aim, Join, Literal, Source};
 use cv_token::{OutOfMemory, Text};
@@ -97,10 +99,19 @@ fn constant_args(alloc: Global, join: &Join, given: Given) -> Result<Items<Argum
 
 /// A name at a place.
 fn named(alloc: Global, text: &str, at: u32) -> Result<Name, OutOfMemory>
+    requires { IsName text.now }
     ensures { IfOk result (λ name. name ≡ record { text = text.now; at = at }) }
 {
-    let text = Text::from_string(String::from_str(alloc, text)?);
+    let text = name_text(alloc, text)?;
     Ok(Name { text, at })
+}
+
+/// A name without a place.
+fn name_text(alloc: Global, text: &str) -> Result<NameText, OutOfMemory>
+    requires { IsName text.now }
+    ensures { IfOk result (λ name. name ≡ text.now) }
+{
+    Ok(NameText::new(Text::from_string(String::from_str(alloc, text)?)))
 }
 
 /// The parts, and a feed for each target of a join.
@@ -157,7 +168,7 @@ fn origin_of(alloc: Global, seen: &Seen, source: &Source) -> Result<Origin, OutO
             Ok(Origin::Port(Step::Name(actor), port.copy(alloc)?))
         }
         Source::Name(_) | Source::Literal(_) => {
-            let port = Text::from_string(String::from_str(alloc, "token")?);
+            let port = name_text(alloc, "token")?;
             Ok(Origin::Port(constant_step(seen), port))
         }
     }

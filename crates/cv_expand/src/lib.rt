@@ -19,6 +19,6 @@ mod walking;
 
 pub use expanding::expand;
 pub use fault::ExpandFault;
-pub use flat::{Actor, Argument, Feed, Given, Instance, Origin, Parts};
+pub use flat::{Actor, Argument, Feed, Flat, Given, Instance, Origin, Parts};
 pub use named::Named;
-pub use path::{Path, Step};
+pub use path::{Path, Step, path_text};

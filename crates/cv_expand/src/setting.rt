@@ -7,8 +7,9 @@ use crate::components::Components;
 use crate::flat::Given;
 use crate::named::Named;
 use crate::path::Path;
+use cv_lex::NameText;
 use cv_syntax::{Source, Statement};
-use cv_token::{OutOfMemory, Text};
+use cv_token::OutOfMemory;
 use sqlite_items::Items;
 use std::alloc::Global;
 
@@ -22,7 +23,7 @@ pub struct World<'a> {
 /// Where the walk is: the components that are open, the path, and the values of the arguments by their names.
 #[derive(Drop)]
 pub struct Spot {
-    pub opened: Items<Text>,
+    pub opened: Items<NameText>,
     pub path: Path,
     pub values: Named<Given>,
 }
@@ -30,7 +31,7 @@ pub struct Spot {
 /// What was met in a body so far: the names that are declared, and how many joins have a value as their source.
 #[derive(Drop)]
 pub struct Seen {
-    pub names: Items<Text>,
+    pub names: Items<NameText>,
     pub constants: usize,
 }
 

@@ -16,8 +16,8 @@ use crate::flat::Parts;
 use crate::joins::walk_join;
 use crate::putting::put_instance;
 use crate::setting::{Seen, Spot, World, note_statement, nothing_seen, root_spot};
+use cv_lex::NameText;
 use cv_syntax::{Component, Declare, Item, KindName, Statement};
-use cv_token::Text;
 use std::alloc::Global;
 
 /// The parts, and what a body adds to them.
@@ -97,7 +97,7 @@ fn walk_instance(
     world: &World<'_>,
     spot: &Spot,
     declare: &Declare,
-    name: &Text,
+    name: &NameText,
     component: &Component,
     flat: Parts,
 ) -> Result<Parts, ExpandFault>

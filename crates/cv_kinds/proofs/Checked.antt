@@ -27,7 +27,7 @@ use Rattle.cv_kinds.specs.declared.table.Sort.{Sort}
 use Rattle.cv_kinds.specs.declared.table.Sort.TheVariants as sort
 use Rattle.cv_kinds.specs.Arguments.{arguments_of, fault_at, fault_for, fault_named, fault_of, faults_from, fraction, given_or_preset, is_lacking, is_point, is_required, last_given, milliseconds_of, nothing_but, number_of, of_parts, plain_token, preset_token, seconds, signed_fraction, sort_named, thousandths, time_of, token_given, within_longest}
 use Rattle.cv_kinds.specs.Sorts.{are_args, are_arguments, is_of, is_within, longest}
-use Rattle.cv_kinds.specs.Table.{Parameter, calc_entry, entry_of, flow_entry}
+use Rattle.cv_kinds.specs.Table.{Parameter, calc_line, line_of, flow_line}
 
 -- ---- durations
 
@@ -192,7 +192,7 @@ none_missing : (b : Bool) → (if b then Some fault.Missing else None) ≡ None 
 none_missing true e = cc
 none_missing false e = refl
 
-flow_sound : (k : FlowKind) → Sound (flow_entry k).params (flow_entry k).params
+flow_sound : (k : FlowKind) → Sound (flow_line k).params (flow_line k).params
 flow_sound flow.Constant = ((refl, refl), ((refl, refl), tt))
 flow_sound flow.Counter = ((refl, refl), tt)
 flow_sound flow.CountTimer = ((refl, refl), ((refl, refl), ((refl, refl), tt)))
@@ -207,18 +207,18 @@ flow_sound flow.Skip = ((refl, refl), tt)
 flow_sound flow.Every = ((refl, refl), tt)
 flow_sound k = tt
 
-calc_sound : (k : CalcKind) → Sound (calc_entry k).params (calc_entry k).params
+calc_sound : (k : CalcKind) → Sound (calc_line k).params (calc_line k).params
 calc_sound calc.Compare = ((refl, refl), tt)
 calc_sound calc.Prefix = ((refl, refl), tt)
 calc_sound calc.JsonGet = ((refl, refl), tt)
 calc_sound k = tt
 
-sound : (k : Kind) → Sound (entry_of k).params (entry_of k).params
-unfolding entry_of
+sound : (k : Kind) → Sound (line_of k).params (line_of k).params
+unfolding line_of
 sound (kind.Flow k) = flow_sound k
 sound (kind.Calc k) = calc_sound k
 
-pub checked : (k : Kind) (args : List Argument) → fault_of (entry_of k).params args ≡ None → are_args k (arguments_of (entry_of k).params args) ≡ true
+pub checked : (k : Kind) (args : List Argument) → fault_of (line_of k).params args ≡ None → are_args k (arguments_of (line_of k).params args) ≡ true
 checked k args e =
-    let h = neither (faults_from (entry_of k).params 0 args) _ e in
-    all_are (entry_of k).params (entry_of k).params args (sound k) h.0 (none_missing _ h.1)
+    let h = neither (faults_from (line_of k).params 0 args) _ e in
+    all_are (line_of k).params (line_of k).params args (sound k) h.0 (none_missing _ h.1)

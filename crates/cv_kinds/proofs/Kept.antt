@@ -22,7 +22,7 @@ use Rattle.cv_kinds.specs.declared.table.Slot.{Slot}
 use Rattle.cv_kinds.specs.Kept.{KeepsState, StartsInState}
 use Rattle.cv_kinds.specs.KindRow.{row_of}
 use Rattle.cv_kinds.specs.Sorts.{are_arguments, are_slots}
-use Rattle.cv_kinds.specs.Table.{calc_entry, entry_of, flow_entry}
+use Rattle.cv_kinds.specs.Table.{calc_line, line_of, flow_line}
 use Rattle.cv_kinds.proofs.Parts.{IsFirst, OfFirst, arg_0, arg_1, arg_2, args_fit, behind, one_slot, slot_0, slot_1, slots_fit, two_slots}
 use Rattle.cv_kinds.proofs.Results.{count_is, fallen_count, fallen_left, first_place, first_round, int_is_next, is_list_List, next_is, next_place, next_round, sum_is}
 
@@ -34,19 +34,19 @@ zero_fits = int_fits (pos 0) refl
 -- what is known of arguments of a kind
 record Known (k : FlowKind) (args : List Token) : Type 0 where
   arg : (i : ℕ) → has_fit (item_of args i) ≡ true
-  arg_0 : OfFirst (flow_entry k).params (item_of args 0)
-  arg_1 : OfFirst (behind (flow_entry k).params) (item_of args 1)
-  arg_2 : OfFirst (behind (behind (flow_entry k).params)) (item_of args 2)
+  arg_0 : OfFirst (flow_line k).params (item_of args 0)
+  arg_1 : OfFirst (behind (flow_line k).params) (item_of args 1)
+  arg_2 : OfFirst (behind (behind (flow_line k).params)) (item_of args 2)
 
-known : (k : FlowKind) (args : List Token) → are_arguments (flow_entry k).params args ≡ true → Known k args
+known : (k : FlowKind) (args : List Token) → are_arguments (flow_line k).params args ≡ true → Known k args
 known k args e = record {
-  arg = λ i. item_fits args i (args_fit (flow_entry k).params args e);
-  arg_0 = arg_0 (flow_entry k).params args e;
-  arg_1 = arg_1 (flow_entry k).params args e;
-  arg_2 = arg_2 (flow_entry k).params args e;
+  arg = λ i. item_fits args i (args_fit (flow_line k).params args e);
+  arg_0 = arg_0 (flow_line k).params args e;
+  arg_1 = arg_1 (flow_line k).params args e;
+  arg_2 = arg_2 (flow_line k).params args e;
 }
 
-flow_starts : (k : FlowKind) (args : List Token) → Known k args → are_slots args (flow_entry k).slots ((flow_row k).start args) ≡ true
+flow_starts : (k : FlowKind) (args : List Token) → Known k args → are_slots args (flow_line k).slots ((flow_row k).start args) ≡ true
 flow_starts flow.Constant args b = one_slot _ _ (b.arg 1) b.arg_1
 flow_starts flow.Counter args b = one_slot _ _ (b.arg 0) (int_is_next (item_of args 0) b.arg_0)
 flow_starts flow.CountTimer args b = two_slots _ _ _ _ (b.arg 1) (int_is_next (item_of args 1) b.arg_1) (b.arg 2) b.arg_2
@@ -67,15 +67,15 @@ flow_starts flow.Change args b = two_slots _ _ _ _ (bool_fits false) refl null_f
 flow_starts k args b = refl
 
 -- the kinds of calculation have no slots
-no_slots : (k : CalcKind) → (calc_entry k).slots ≡ []
+no_slots : (k : CalcKind) → (calc_line k).slots ≡ []
 no_slots calc.Add = refl
 no_slots k = refl
 
-calc_holds : (k : CalcKind) (args : List Token) → are_slots args (calc_entry k).slots [] ≡ true
+calc_holds : (k : CalcKind) (args : List Token) → are_slots args (calc_line k).slots [] ≡ true
 calc_holds k args = ap (λ (ss : List Slot). are_slots args ss []) (no_slots k)
 
 pub starts : (k : Kind) → StartsInState k
-unfolding entry_of row_of
+unfolding line_of row_of
 starts (kind.Flow k) args a = flow_starts k args (known k args a)
 starts (kind.Calc k) args a = calc_holds k args
 
@@ -84,24 +84,24 @@ starts (kind.Calc k) args a = calc_holds k args
 -- what is known of arguments, state and heads where an action fires
 record Before (k : FlowKind) (args state heads : List Token) : Type 0 where
   arg : (i : ℕ) → has_fit (item_of args i) ≡ true
-  arg_0 : OfFirst (flow_entry k).params (item_of args 0)
+  arg_0 : OfFirst (flow_line k).params (item_of args 0)
   slot : (i : ℕ) → has_fit (item_of state i) ≡ true
-  slot_0 : IsFirst args (flow_entry k).slots (item_of state 0)
-  slot_1 : IsFirst args (behind (flow_entry k).slots) (item_of state 1)
+  slot_0 : IsFirst args (flow_line k).slots (item_of state 0)
+  slot_1 : IsFirst args (behind (flow_line k).slots) (item_of state 1)
   head : (i : ℕ) → has_fit (item_of heads i) ≡ true
 
-before : (k : FlowKind) (args state heads : List Token) → are_arguments (flow_entry k).params args ≡ true → are_slots args (flow_entry k).slots state ≡ true → all_fit heads ≡ true → Before k args state heads
+before : (k : FlowKind) (args state heads : List Token) → are_arguments (flow_line k).params args ≡ true → are_slots args (flow_line k).slots state ≡ true → all_fit heads ≡ true → Before k args state heads
 before k args state heads a s h = let b = known k args a in record {
   arg = b.arg;
   arg_0 = b.arg_0;
-  slot = λ i. item_fits state i (slots_fit args (flow_entry k).slots state s);
-  slot_0 = slot_0 args (flow_entry k).slots state s;
-  slot_1 = slot_1 args (flow_entry k).slots state s;
+  slot = λ i. item_fits state i (slots_fit args (flow_line k).slots state s);
+  slot_0 = slot_0 args (flow_line k).slots state s;
+  slot_1 = slot_1 args (flow_line k).slots state s;
   head = λ i. item_fits heads i h;
 }
 
 abbrev After : FlowKind → List Token → Effect → Type 0
-After k args e = (are_slots args (flow_entry k).slots e.state ≡ true) × (given_fit e.out ≡ true)
+After k args e = (are_slots args (flow_line k).slots e.state ≡ true) × (given_fit e.out ≡ true)
 
 flow_keeps : (k : FlowKind) (args state heads : List Token) (head : Token) → Before k args state heads → Each (After k args) args state heads head (flow_row k).actions
 flow_keeps flow.Constant args state heads head b = (λ g. (one_slot _ _ (fallen_fits (item_of state 0) (b.slot 0)) (fallen_left (item_of state 0) b.slot_0), both _ true (b.arg 0) refl), tt)
@@ -133,8 +133,8 @@ flow_keeps flow.Unzip args state heads head b = (λ g. (refl, both _ _ (first_fi
 flow_keeps flow.Change args state heads head b = (λ g. (two_slots _ _ _ _ (bool_fits true) refl (b.head 0) refl, both _ true (b.head 0) refl), (λ g. (two_slots _ _ _ _ (b.slot 0) b.slot_0 (b.slot 1) b.slot_1, refl), tt))
 
 pub keeps : (k : Kind) → KeepsState k
-unfolding entry_of row_of
+unfolding line_of row_of
 keeps (kind.Flow k) args state heads action head a s h g = by_actions (After k args) (flow_row k) args state heads action head (flow_keeps k args state heads _ (before k args state heads a s h)) g
 keeps (kind.Calc k) args state heads action head a s h g =
-    by_actions (λ e. (are_slots args (calc_entry k).slots e.state ≡ true) × (given_fit e.out ≡ true)) (calc_row k) args state heads action head
+    by_actions (λ e. (are_slots args (calc_line k).slots e.state ≡ true) × (given_fit e.out ≡ true)) (calc_row k) args state heads action head
     (λ t. (calc_holds k args, both _ true (given_fits k (item_of args 0) (item_of heads 0) (item_of heads 1) (item_fits heads 0 h)) refl), tt) g

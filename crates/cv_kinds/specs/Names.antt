@@ -5,7 +5,7 @@ use Rattle.cv_calc.specs.declared.kind.CalcKind.TheVariants as calc
 use Rattle.cv_flow.specs.declared.kind.FlowKind.TheVariants as flow
 use Rattle.cv_kinds.specs.declared.kind.Kind.{Kind}
 use Rattle.cv_kinds.specs.declared.kind.Kind.TheVariants as kind
-use Rattle.cv_kinds.specs.Table.{entry_of}
+use Rattle.cv_kinds.specs.Table.{line_of}
 
 -- all kinds, in the order of the table
 abbrev pub all_kinds : List Kind
@@ -24,7 +24,7 @@ all_kinds =
 -- the first of these kinds that has the name
 abbrev pub first_named : List Kind → List ℕ → Option Kind
 first_named [] n = None
-first_named (k ∷ ks) n = if bytes_eq n (entry_of k).name then Some k else first_named ks n
+first_named (k ∷ ks) n = if bytes_eq n (line_of k).name then Some k else first_named ks n
 
 -- the kind of a name
 unfoldable pub kind_named : List ℕ → Option Kind
@@ -36,7 +36,7 @@ place_from i [] n = None
 place_from i (m ∷ ms) n = if bytes_eq n m then Some i else place_from (suc i) ms n
 
 abbrev pub inport_named : Kind → List ℕ → Option ℕ
-inport_named k n = place_from 0 (entry_of k).inports n
+inport_named k n = place_from 0 (line_of k).inports n
 
 abbrev pub outport_named : Kind → List ℕ → Option ℕ
-outport_named k n = place_from 0 (entry_of k).outports n
+outport_named k n = place_from 0 (line_of k).outports n

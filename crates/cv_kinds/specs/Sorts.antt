@@ -9,7 +9,7 @@ use Rattle.cv_kinds.specs.declared.table.Slot.{Slot}
 use Rattle.cv_kinds.specs.declared.table.Slot.TheVariants as slot
 use Rattle.cv_kinds.specs.declared.table.Sort.{Sort}
 use Rattle.cv_kinds.specs.declared.table.Sort.TheVariants as sort
-use Rattle.cv_kinds.specs.Table.{Parameter, entry_of}
+use Rattle.cv_kinds.specs.Table.{Parameter, line_of}
 
 -- ---- sorts
 
@@ -68,7 +68,7 @@ are_arguments _ _ = false
 
 -- the arguments are some of the kind's row
 abbrev pub are_args : Kind → List Token → Bool
-are_args k args = are_arguments (entry_of k).params args
+are_args k args = are_arguments (line_of k).params args
 
 -- ---- states
 
@@ -95,4 +95,4 @@ are_slots args (s ∷ ss) (t ∷ ts) = has_fit t && (is_slot args s t && are_slo
 are_slots args _ _ = false
 
 abbrev pub is_state : Kind → List Token → List Token → Bool
-is_state k args state = are_slots args (entry_of k).slots state
+is_state k args state = are_slots args (line_of k).slots state

@@ -35,190 +35,190 @@ takes name sort preset = record { name = name; sort = sort; preset = preset }
 abbrev pub taking : Param → Parameter
 taking p = takes p.name.now p.sort p.preset
 
-abbrev pub flow_entry : FlowKind → Line
-flow_entry flow.Constant = record {
+abbrev pub flow_line : FlowKind → Line
+flow_line flow.Constant = record {
   name = codes "std.Constant";
   inports = [];
   outports = codes "token" ∷ [];
   params = takes (codes "data") sort.Any preset.Required ∷ takes (codes "n") (sort.AtLeast (negsuc 0)) (preset.Int (pos 1)) ∷ [];
   slots = slot.Plain (sort.AtLeast (negsuc 0)) ∷ [];
 }
-flow_entry flow.Counter = record {
+flow_line flow.Counter = record {
   name = codes "std.Counter";
   inports = [];
   outports = codes "integer" ∷ [];
   params = takes (codes "start") sort.Int (preset.Int (pos 1)) ∷ [];
   slots = slot.Next ∷ [];
 }
-flow_entry flow.CountTimer = record {
+flow_line flow.CountTimer = record {
   name = codes "std.CountTimer";
   inports = [];
   outports = codes "integer" ∷ [];
   params = takes (codes "sleep") sort.Duration (preset.Int (pos 1000)) ∷ takes (codes "start") sort.Int (preset.Int (pos 1)) ∷ takes (codes "steps") (sort.AtLeast (negsuc 0)) (preset.Int (negsuc 0)) ∷ [];
   slots = slot.Next ∷ slot.Plain (sort.AtLeast (negsuc 0)) ∷ [];
 }
-flow_entry flow.Identity = record {
+flow_line flow.Identity = record {
   name = codes "std.Identity";
   inports = codes "token" ∷ [];
   outports = codes "token" ∷ [];
   params = takes (codes "dump") sort.Truth preset.False ∷ [];
   slots = [];
 }
-flow_entry flow.Sequence = record {
+flow_line flow.Sequence = record {
   name = codes "std.Sequence";
   inports = [];
   outports = codes "token" ∷ [];
   params = takes (codes "data") sort.List preset.Required ∷ [];
   slots = slot.Place ∷ [];
 }
-flow_entry flow.Trigger = record {
+flow_line flow.Trigger = record {
   name = codes "std.Trigger";
   inports = [];
   outports = codes "data" ∷ [];
   params = takes (codes "tick") sort.Duration (preset.Int (pos 1000)) ∷ takes (codes "data") sort.Any preset.Null ∷ [];
   slots = [];
 }
-flow_entry flow.Delay = record {
+flow_line flow.Delay = record {
   name = codes "std.Delay";
   inports = codes "token" ∷ [];
   outports = codes "token" ∷ [];
   params = takes (codes "delay") sort.Duration (preset.Int (pos 1000)) ∷ [];
   slots = slot.Plain sort.Truth ∷ slot.Plain sort.Any ∷ [];
 }
-flow_entry flow.Sum = record {
+flow_line flow.Sum = record {
   name = codes "std.Sum";
   inports = codes "integer" ∷ [];
   outports = codes "integer" ∷ [];
   params = [];
   slots = slot.Plain sort.Int ∷ [];
 }
-flow_entry flow.Tally = record {
+flow_line flow.Tally = record {
   name = codes "std.Tally";
   inports = codes "token" ∷ [];
   outports = codes "integer" ∷ [];
   params = [];
   slots = slot.Plain (sort.AtLeast (pos 0)) ∷ [];
 }
-flow_entry flow.Print = record {
+flow_line flow.Print = record {
   name = codes "io.Print";
   inports = codes "token" ∷ [];
   outports = [];
   params = [];
   slots = [];
 }
-flow_entry flow.Terminator = record {
+flow_line flow.Terminator = record {
   name = codes "flow.Terminator";
   inports = codes "void" ∷ [];
   outports = [];
   params = [];
   slots = [];
 }
-flow_entry flow.Init = record {
+flow_line flow.Init = record {
   name = codes "flow.Init";
   inports = codes "in" ∷ [];
   outports = codes "out" ∷ [];
   params = takes (codes "data") sort.Any preset.Required ∷ [];
   slots = slot.Plain sort.Truth ∷ [];
 }
-flow_entry flow.Join = record {
+flow_line flow.Join = record {
   name = codes "flow.Join";
   inports = codes "token_1" ∷ codes "token_2" ∷ [];
   outports = codes "token" ∷ [];
   params = [];
   slots = [];
 }
-flow_entry flow.Alternate2 = record {
+flow_line flow.Alternate2 = record {
   name = codes "flow.Alternate2";
   inports = codes "token_1" ∷ codes "token_2" ∷ [];
   outports = codes "token" ∷ [];
   params = [];
   slots = slot.Plain (sort.Within (pos 0) (pos 1)) ∷ [];
 }
-flow_entry flow.Alternate3 = record {
+flow_line flow.Alternate3 = record {
   name = codes "flow.Alternate3";
   inports = codes "token_1" ∷ codes "token_2" ∷ codes "token_3" ∷ [];
   outports = codes "token" ∷ [];
   params = [];
   slots = slot.Plain (sort.Within (pos 0) (pos 2)) ∷ [];
 }
-flow_entry flow.Dealternate2 = record {
+flow_line flow.Dealternate2 = record {
   name = codes "flow.Dealternate2";
   inports = codes "token" ∷ [];
   outports = codes "token_1" ∷ codes "token_2" ∷ [];
   params = [];
   slots = slot.Plain (sort.Within (pos 0) (pos 1)) ∷ [];
 }
-flow_entry flow.Select = record {
+flow_line flow.Select = record {
   name = codes "flow.Select";
   inports = codes "select" ∷ codes "data" ∷ [];
   outports = codes "case_true" ∷ codes "case_false" ∷ [];
   params = [];
   slots = [];
 }
-flow_entry flow.Switch = record {
+flow_line flow.Switch = record {
   name = codes "flow.Switch";
   inports = codes "switch" ∷ codes "a" ∷ codes "b" ∷ [];
   outports = codes "data" ∷ [];
   params = [];
   slots = [];
 }
-flow_entry flow.Batch = record {
+flow_line flow.Batch = record {
   name = codes "flow.Batch";
   inports = codes "token" ∷ [];
   outports = codes "list" ∷ [];
   params = takes (codes "n") (sort.Within (pos 1) (pos 64)) (preset.Int (pos 2)) ∷ [];
   slots = [];
 }
-flow_entry flow.Unbatch = record {
+flow_line flow.Unbatch = record {
   name = codes "flow.Unbatch";
   inports = codes "list" ∷ [];
   outports = codes "token" ∷ [];
   params = [];
   slots = slot.Plain sort.List ∷ [];
 }
-flow_entry flow.Take = record {
+flow_line flow.Take = record {
   name = codes "flow.Take";
   inports = codes "token" ∷ [];
   outports = codes "token" ∷ [];
   params = takes (codes "n") (sort.AtLeast (pos 0)) preset.Required ∷ [];
   slots = slot.Plain (sort.AtLeast (pos 0)) ∷ [];
 }
-flow_entry flow.Skip = record {
+flow_line flow.Skip = record {
   name = codes "flow.Skip";
   inports = codes "token" ∷ [];
   outports = codes "token" ∷ [];
   params = takes (codes "n") (sort.AtLeast (pos 0)) preset.Required ∷ [];
   slots = slot.Plain (sort.AtLeast (pos 0)) ∷ [];
 }
-flow_entry flow.Every = record {
+flow_line flow.Every = record {
   name = codes "flow.Every";
   inports = codes "token" ∷ [];
   outports = codes "token" ∷ [];
   params = takes (codes "n") (sort.AtLeast (pos 1)) preset.Required ∷ [];
   slots = slot.Round ∷ [];
 }
-flow_entry flow.Valve = record {
+flow_line flow.Valve = record {
   name = codes "flow.Valve";
   inports = codes "open" ∷ codes "token" ∷ [];
   outports = codes "token" ∷ [];
   params = [];
   slots = slot.Plain sort.Truth ∷ [];
 }
-flow_entry flow.Zip = record {
+flow_line flow.Zip = record {
   name = codes "flow.Zip";
   inports = codes "a" ∷ codes "b" ∷ [];
   outports = codes "pair" ∷ [];
   params = [];
   slots = [];
 }
-flow_entry flow.Unzip = record {
+flow_line flow.Unzip = record {
   name = codes "flow.Unzip";
   inports = codes "pair" ∷ [];
   outports = codes "a" ∷ codes "b" ∷ [];
   params = [];
   slots = [];
 }
-flow_entry flow.Change = record {
+flow_line flow.Change = record {
   name = codes "flow.Change";
   inports = codes "token" ∷ [];
   outports = codes "token" ∷ [];
@@ -226,92 +226,92 @@ flow_entry flow.Change = record {
   slots = slot.Plain sort.Truth ∷ slot.Plain sort.Any ∷ [];
 }
 
-abbrev pub calc_entry : CalcKind → Line
-calc_entry calc.Add = record {
+abbrev pub calc_line : CalcKind → Line
+calc_line calc.Add = record {
   name = codes "math.Add";
   inports = codes "a" ∷ codes "b" ∷ [];
   outports = codes "result" ∷ [];
   params = [];
   slots = [];
 }
-calc_entry calc.Subtract = record {
+calc_line calc.Subtract = record {
   name = codes "math.Subtract";
   inports = codes "a" ∷ codes "b" ∷ [];
   outports = codes "result" ∷ [];
   params = [];
   slots = [];
 }
-calc_entry calc.Multiply = record {
+calc_line calc.Multiply = record {
   name = codes "math.Multiply";
   inports = codes "a" ∷ codes "b" ∷ [];
   outports = codes "result" ∷ [];
   params = [];
   slots = [];
 }
-calc_entry calc.Divide = record {
+calc_line calc.Divide = record {
   name = codes "math.Divide";
   inports = codes "a" ∷ codes "b" ∷ [];
   outports = codes "result" ∷ [];
   params = [];
   slots = [];
 }
-calc_entry calc.Modulo = record {
+calc_line calc.Modulo = record {
   name = codes "math.Modulo";
   inports = codes "a" ∷ codes "b" ∷ [];
   outports = codes "result" ∷ [];
   params = [];
   slots = [];
 }
-calc_entry calc.Compare = record {
+calc_line calc.Compare = record {
   name = codes "math.Compare";
   inports = codes "a" ∷ codes "b" ∷ [];
   outports = codes "result" ∷ [];
   params = takes (codes "op") sort.Operator preset.Required ∷ [];
   slots = [];
 }
-calc_entry calc.Concat = record {
+calc_line calc.Concat = record {
   name = codes "text.Concat";
   inports = codes "a" ∷ codes "b" ∷ [];
   outports = codes "text" ∷ [];
   params = [];
   slots = [];
 }
-calc_entry calc.Length = record {
+calc_line calc.Length = record {
   name = codes "text.Length";
   inports = codes "text" ∷ [];
   outports = codes "integer" ∷ [];
   params = [];
   slots = [];
 }
-calc_entry calc.Prefix = record {
+calc_line calc.Prefix = record {
   name = codes "text.Prefix";
   inports = codes "text" ∷ [];
   outports = codes "text" ∷ [];
   params = takes (codes "prefix") sort.Text preset.EmptyText ∷ [];
   slots = [];
 }
-calc_entry calc.JsonText = record {
+calc_line calc.JsonText = record {
   name = codes "json.Text";
   inports = codes "token" ∷ [];
   outports = codes "text" ∷ [];
   params = [];
   slots = [];
 }
-calc_entry calc.JsonParse = record {
+calc_line calc.JsonParse = record {
   name = codes "json.Parse";
   inports = codes "text" ∷ [];
   outports = codes "token" ∷ [];
   params = [];
   slots = [];
 }
-calc_entry calc.JsonGet = record {
+calc_line calc.JsonGet = record {
   name = codes "json.Get";
   inports = codes "container" ∷ [];
   outports = codes "value" ∷ [];
   params = takes (codes "key") sort.TextOrInt preset.Required ∷ [];
   slots = [];
 }
-calc_entry calc.Not = record {
+calc_line calc.Not = record {
   name = codes "logic.Not";
   inports = codes "a" ∷ [];
   outports = codes "result" ∷ [];
@@ -319,6 +319,6 @@ calc_entry calc.Not = record {
   slots = [];
 }
 
-unfoldable pub entry_of : Kind → Line
-entry_of (kind.Flow k) = flow_entry k
-entry_of (kind.Calc k) = calc_entry k
+unfoldable pub line_of : Kind → Line
+line_of (kind.Flow k) = flow_line k
+line_of (kind.Calc k) = calc_line k

@@ -1,4 +1,4 @@
--- A well-formed network: its connections join ports that are there, and no two share a port.
+-- A well-formed network: its connections join ports that are there, and no two share an inport.
 use Rattle.std.specs.Prelude.{◌≡◌, ℕ, ◌<◌, List, slice_get, Option, Some, None}
 use Rattle.cv_kinds.specs.declared.network.ActorSpec.{ActorSpec}
 use Rattle.cv_kinds.specs.declared.network.Join.{Join}
@@ -14,12 +14,15 @@ abbrev pub HasInport : Option ActorSpec → ℕ → Type 0
 HasInport None port = ⊥
 HasInport (Some a) port = port < (row_of a.kind).inports
 
--- without `one_reader` an outport may feed several connections
+-- an outport may feed several connections
 pub record IsWired (net : Net) : Type 0 where
   pub producers : (c : ℕ) (j : Join) → slice_get net.connections c ≡ Some j → HasOutport (slice_get net.actors j.from) j.out
   pub consumers : (c : ℕ) (j : Join) → slice_get net.connections c ≡ Some j → HasInport (slice_get net.actors j.to) j.inp
   pub one_writer : (c d : ℕ) (j k : Join) → slice_get net.connections c ≡ Some j → slice_get net.connections d ≡ Some k → j.to ≡ k.to → j.inp ≡ k.inp → c ≡ d
-  pub one_reader : (c d : ℕ) (j k : Join) → slice_get net.connections c ≡ Some j → slice_get net.connections d ≡ Some k → j.from ≡ k.from → j.out ≡ k.out → c ≡ d
+
+-- no two connections share an outport
+abbrev pub HasOneReader : Net → Type 0
+HasOneReader net = (c d : ℕ) (j k : Join) → slice_get net.connections c ≡ Some j → slice_get net.connections d ≡ Some k → j.from ≡ k.from → j.out ≡ k.out → c ≡ d
 
 -- both ends of a connection are there
 pub record Joins (actors : List ActorSpec) (j : Join) : Type 0 where

@@ -3,7 +3,7 @@
 ghost use Rattle.std.specs.Prelude.{◌≡◌, ◌==◌, ◌&&◌, map, Some, None, Err, IfOk, MatchResult, true, is_some, is_none, option_map, unwrap_or};
 ghost use Rattle.std.specs.List.{list_any};
 ghost use Rattle.cv_token.specs.declared.token.Token.TheVariants as token;
-ghost use Rattle.cv_kinds.specs.Table.{entry_of, taking};
+ghost use Rattle.cv_kinds.specs.Table.{line_of, taking};
 ghost use Rattle.cv_kinds.specs.Arguments.{arguments_of, argument_of, fault_at, fault_for, fault_of, faults_from, is_lacking, is_required, last_given, plain_token, preset_token, sort_named, token_given};
 ghost use Rattle.cv_kinds.specs.Sorts.{are_args};
 ghost use Rattle.cv_kinds.specs.declared.arguments.ArgFault.{ArgFault};
@@ -62,13 +62,13 @@ impl From<AllocError> for ArgFault {
 /// takes memory.
 #[tactic(auto, using(crate::proofs::Checked::checked))]
 pub fn check_args(alloc: Global, kind: Kind, given: &ArgList) -> Result<Items, ArgFault>
-    ensures faulty { (fault : ArgFault) → fault_of (entry_of kind).params given.now ≡ Some fault → result ≡ Err fault }
-    ensures whole { fault_of (entry_of kind).params given.now ≡ None → MatchResult result (λ args. args ≡ arguments_of (entry_of kind).params given.now) (λ fault. fault ≡ faults.OutOfMemory) }
+    ensures faulty { (fault : ArgFault) → fault_of (line_of kind).params given.now ≡ Some fault → result ≡ Err fault }
+    ensures whole { fault_of (line_of kind).params given.now ≡ None → MatchResult result (λ args. args ≡ arguments_of (line_of kind).params given.now) (λ fault. fault ≡ faults.OutOfMemory) }
 
     // They are arguments of the kind's row.
     ensures sorted { IfOk result (λ args. are_args kind args ≡ true) }
 {
-    let params = kind.entry().params;
+    let params = kind.line().params;
     if let Some(fault) = fault_of(params, given.as_slice()) {
         return Err(fault);
     }

@@ -15,4 +15,4 @@ pub use kind::{Kind, actions, deterministic};
 pub use names::{KINDS, find, inport, name, outport};
 pub use network::{ActorSpec, Join, Network};
 pub use sorts::state_ok;
-pub use table::{Entry, Param, Preset, Slot, Sort};
+pub use table::{Line, Param, Preset, Slot, Sort};

@@ -3,7 +3,7 @@
 ghost use Rattle.std.specs.Prelude.{◌≡◌, ◌<◌, ◌≤◌, IfSome, Some, map, length};
 ghost use Rattle.cv_kinds.specs.declared.kind.Kind.{Kind};
 ghost use Rattle.cv_kinds.specs.KindRow.{row_of};
-ghost use Rattle.cv_kinds.specs.Table.{entry_of};
+ghost use Rattle.cv_kinds.specs.Table.{line_of};
 ghost use Rattle.cv_kinds.specs.Names.{first_named, kind_named, place_from, inport_named, outport_named};
 
 use crate::kind::Kind;
@@ -58,8 +58,8 @@ pub const KINDS: [Kind; 40] = [
 #[tactic(auto, unfolding(crate::specs::Names::kind_named))]
 pub fn find(name: &str) -> Option<Kind>
     ensures named { result ≡ kind_named name.now }
-    ensures found { IfSome result (λ kind. (entry_of kind).name ≡ name.now) }
-    ensures only { (kind : Kind) → (entry_of kind).name ≡ name.now → result ≡ Some kind }
+    ensures found { IfSome result (λ kind. (line_of kind).name ≡ name.now) }
+    ensures only { (kind : Kind) → (line_of kind).name ≡ name.now → result ≡ Some kind }
 {
     first_named(&KINDS, name)
 }
@@ -69,7 +69,7 @@ fn first_named(kinds: &[Kind], name: &str) -> Option<Kind>
     ensures { result ≡ first_named kinds.now name.now }
 {
     for kind in kinds {
-        if name == kind.entry().name {
+        if name == kind.line().name {
             return Some(*kind);
         }
     }
@@ -78,9 +78,9 @@ fn first_named(kinds: &[Kind], name: &str) -> Option<Kind>
 
 /// The name of a kind, as scripts write it.
 pub fn name(kind: Kind) -> &'static str
-    ensures { result.now ≡ (entry_of kind).name }
+    ensures { result.now ≡ (line_of kind).name }
 {
-    kind.entry().name
+    kind.line().name
 }
 
 /// The number of the inport of that name; None exactly where the kind has no such inport.
@@ -88,7 +88,7 @@ pub fn inport(kind: Kind, name: &str) -> Option<u8>
     ensures named { result ≡ inport_named kind name.now }
     ensures within { IfSome result (λ port. port < (row_of kind).inports) }
 {
-    port_named(kind.entry().inports, name)
+    port_named(kind.line().inports, name)
 }
 
 /// The number of the outport of that name; None exactly where the kind has no such outport.
@@ -96,7 +96,7 @@ pub fn outport(kind: Kind, name: &str) -> Option<u8>
     ensures named { result ≡ outport_named kind name.now }
     ensures within { IfSome result (λ port. port < (row_of kind).outports) }
 {
-    port_named(kind.entry().outports, name)
+    port_named(kind.line().outports, name)
 }
 
 /// The place of a name among those of some ports.

@@ -104,7 +104,7 @@ fn is_operator_text(text: &str) -> bool
 pub fn state_ok(kind: Kind, args: &Items, state: &Items) -> bool
     ensures { result ≡ is_state kind args.now state.now }
 {
-    are_slots(args, kind.entry().slots, state.as_slice())
+    are_slots(args, kind.line().slots, state.as_slice())
 }
 
 fn are_slots(args: &Items, slots: &[Slot], state: &[Token]) -> bool

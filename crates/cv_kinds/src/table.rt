@@ -1,7 +1,7 @@
 //! The table of kinds: a line for each, with its name, its ports, its parameters and its slots.
 
 ghost use Rattle.std.specs.Prelude.{◌≡◌, map};
-ghost use Rattle.cv_kinds.specs.Table.{entry_of, flow_entry, calc_entry, taking};
+ghost use Rattle.cv_kinds.specs.Table.{line_of, flow_line, calc_line, taking};
 
 use crate::kind::Kind;
 use cv_calc::CalcKind;
@@ -67,7 +67,7 @@ pub enum Slot {
 
 /// The line of a kind.
 #[derive(Debug, Clone, Copy)]
-pub struct Entry {
+pub struct Line {
     /// The name, as scripts write it.
     pub name: &'static str,
     /// The names of the inports, in the order of their numbers.
@@ -82,29 +82,29 @@ pub struct Entry {
 
 impl Kind {
     /// The line of the kind.
-    #[tactic(auto, unfolding(crate::specs::Table::entry_of))]
-    pub fn entry(self) -> Entry
-        ensures name { result.name.now ≡ (entry_of self).name }
-        ensures inports { map (λ text. text.now) result.inports.now ≡ (entry_of self).inports }
-        ensures outports { map (λ text. text.now) result.outports.now ≡ (entry_of self).outports }
-        ensures params { map taking result.params.now ≡ (entry_of self).params }
-        ensures slots { result.slots.now ≡ (entry_of self).slots }
+    #[tactic(auto, unfolding(crate::specs::Table::line_of))]
+    pub fn line(self) -> Line
+        ensures name { result.name.now ≡ (line_of self).name }
+        ensures inports { map (λ text. text.now) result.inports.now ≡ (line_of self).inports }
+        ensures outports { map (λ text. text.now) result.outports.now ≡ (line_of self).outports }
+        ensures params { map taking result.params.now ≡ (line_of self).params }
+        ensures slots { result.slots.now ≡ (line_of self).slots }
     {
         match self {
-            Kind::Flow(kind) => Kind::flow_entry(kind),
-            Kind::Calc(kind) => Kind::calc_entry(kind),
+            Kind::Flow(kind) => Kind::flow_line(kind),
+            Kind::Calc(kind) => Kind::calc_line(kind),
         }
     }
 
-    fn flow_entry(kind: FlowKind) -> Entry
-        ensures name { result.name.now ≡ (flow_entry kind).name }
-        ensures inports { map (λ text. text.now) result.inports.now ≡ (flow_entry kind).inports }
-        ensures outports { map (λ text. text.now) result.outports.now ≡ (flow_entry kind).outports }
-        ensures params { map taking result.params.now ≡ (flow_entry kind).params }
-        ensures slots { result.slots.now ≡ (flow_entry kind).slots }
+    fn flow_line(kind: FlowKind) -> Line
+        ensures name { result.name.now ≡ (flow_line kind).name }
+        ensures inports { map (λ text. text.now) result.inports.now ≡ (flow_line kind).inports }
+        ensures outports { map (λ text. text.now) result.outports.now ≡ (flow_line kind).outports }
+        ensures params { map taking result.params.now ≡ (flow_line kind).params }
+        ensures slots { result.slots.now ≡ (flow_line kind).slots }
     {
         match kind {
-            FlowKind::Constant => Entry {
+            FlowKind::Constant => Line {
                 name: "std.Constant",
                 inports: &[],
                 outports: &["token"],
@@ -122,7 +122,7 @@ impl Kind {
                 ],
                 slots: &[Slot::Plain(Sort::AtLeast(-1))],
             },
-            FlowKind::Counter => Entry {
+            FlowKind::Counter => Line {
                 name: "std.Counter",
                 inports: &[],
                 outports: &["integer"],
@@ -133,7 +133,7 @@ impl Kind {
                 }],
                 slots: &[Slot::Next],
             },
-            FlowKind::CountTimer => Entry {
+            FlowKind::CountTimer => Line {
                 name: "std.CountTimer",
                 inports: &[],
                 outports: &["integer"],
@@ -156,7 +156,7 @@ impl Kind {
                 ],
                 slots: &[Slot::Next, Slot::Plain(Sort::AtLeast(-1))],
             },
-            FlowKind::Identity => Entry {
+            FlowKind::Identity => Line {
                 name: "std.Identity",
                 inports: &["token"],
                 outports: &["token"],
@@ -167,7 +167,7 @@ impl Kind {
                 }],
                 slots: &[],
             },
-            FlowKind::Sequence => Entry {
+            FlowKind::Sequence => Line {
                 name: "std.Sequence",
                 inports: &[],
                 outports: &["token"],
@@ -178,7 +178,7 @@ impl Kind {
                 }],
                 slots: &[Slot::Place],
             },
-            FlowKind::Trigger => Entry {
+            FlowKind::Trigger => Line {
                 name: "std.Trigger",
                 inports: &[],
                 outports: &["data"],
@@ -196,7 +196,7 @@ impl Kind {
                 ],
                 slots: &[],
             },
-            FlowKind::Delay => Entry {
+            FlowKind::Delay => Line {
                 name: "std.Delay",
                 inports: &["token"],
                 outports: &["token"],
@@ -207,35 +207,35 @@ impl Kind {
                 }],
                 slots: &[Slot::Plain(Sort::Truth), Slot::Plain(Sort::Any)],
             },
-            FlowKind::Sum => Entry {
+            FlowKind::Sum => Line {
                 name: "std.Sum",
                 inports: &["integer"],
                 outports: &["integer"],
                 params: &[],
                 slots: &[Slot::Plain(Sort::Int)],
             },
-            FlowKind::Tally => Entry {
+            FlowKind::Tally => Line {
                 name: "std.Tally",
                 inports: &["token"],
                 outports: &["integer"],
                 params: &[],
                 slots: &[Slot::Plain(Sort::AtLeast(0))],
             },
-            FlowKind::Print => Entry {
+            FlowKind::Print => Line {
                 name: "io.Print",
                 inports: &["token"],
                 outports: &[],
                 params: &[],
                 slots: &[],
             },
-            FlowKind::Terminator => Entry {
+            FlowKind::Terminator => Line {
                 name: "flow.Terminator",
                 inports: &["void"],
                 outports: &[],
                 params: &[],
                 slots: &[],
             },
-            FlowKind::Init => Entry {
+            FlowKind::Init => Line {
                 name: "flow.Init",
                 inports: &["in"],
                 outports: &["out"],
@@ -246,49 +246,49 @@ impl Kind {
                 }],
                 slots: &[Slot::Plain(Sort::Truth)],
             },
-            FlowKind::Join => Entry {
+            FlowKind::Join => Line {
                 name: "flow.Join",
                 inports: &["token_1", "token_2"],
                 outports: &["token"],
                 params: &[],
                 slots: &[],
             },
-            FlowKind::Alternate2 => Entry {
+            FlowKind::Alternate2 => Line {
                 name: "flow.Alternate2",
                 inports: &["token_1", "token_2"],
                 outports: &["token"],
                 params: &[],
                 slots: &[Slot::Plain(Sort::Within(0, 1))],
             },
-            FlowKind::Alternate3 => Entry {
+            FlowKind::Alternate3 => Line {
                 name: "flow.Alternate3",
                 inports: &["token_1", "token_2", "token_3"],
                 outports: &["token"],
                 params: &[],
                 slots: &[Slot::Plain(Sort::Within(0, 2))],
             },
-            FlowKind::Dealternate2 => Entry {
+            FlowKind::Dealternate2 => Line {
                 name: "flow.Dealternate2",
                 inports: &["token"],
                 outports: &["token_1", "token_2"],
                 params: &[],
                 slots: &[Slot::Plain(Sort::Within(0, 1))],
             },
-            FlowKind::Select => Entry {
+            FlowKind::Select => Line {
                 name: "flow.Select",
                 inports: &["select", "data"],
                 outports: &["case_true", "case_false"],
                 params: &[],
                 slots: &[],
             },
-            FlowKind::Switch => Entry {
+            FlowKind::Switch => Line {
                 name: "flow.Switch",
                 inports: &["switch", "a", "b"],
                 outports: &["data"],
                 params: &[],
                 slots: &[],
             },
-            FlowKind::Batch => Entry {
+            FlowKind::Batch => Line {
                 name: "flow.Batch",
                 inports: &["token"],
                 outports: &["list"],
@@ -299,14 +299,14 @@ impl Kind {
                 }],
                 slots: &[],
             },
-            FlowKind::Unbatch => Entry {
+            FlowKind::Unbatch => Line {
                 name: "flow.Unbatch",
                 inports: &["list"],
                 outports: &["token"],
                 params: &[],
                 slots: &[Slot::Plain(Sort::List)],
             },
-            FlowKind::Take => Entry {
+            FlowKind::Take => Line {
                 name: "flow.Take",
                 inports: &["token"],
                 outports: &["token"],
@@ -317,7 +317,7 @@ impl Kind {
                 }],
                 slots: &[Slot::Plain(Sort::AtLeast(0))],
             },
-            FlowKind::Skip => Entry {
+            FlowKind::Skip => Line {
                 name: "flow.Skip",
                 inports: &["token"],
                 outports: &["token"],
@@ -328,7 +328,7 @@ impl Kind {
                 }],
                 slots: &[Slot::Plain(Sort::AtLeast(0))],
             },
-            FlowKind::Every => Entry {
+            FlowKind::Every => Line {
                 name: "flow.Every",
                 inports: &["token"],
                 outports: &["token"],
@@ -339,28 +339,28 @@ impl Kind {
                 }],
                 slots: &[Slot::Round],
             },
-            FlowKind::Valve => Entry {
+            FlowKind::Valve => Line {
                 name: "flow.Valve",
                 inports: &["open", "token"],
                 outports: &["token"],
                 params: &[],
                 slots: &[Slot::Plain(Sort::Truth)],
             },
-            FlowKind::Zip => Entry {
+            FlowKind::Zip => Line {
                 name: "flow.Zip",
                 inports: &["a", "b"],
                 outports: &["pair"],
                 params: &[],
                 slots: &[],
             },
-            FlowKind::Unzip => Entry {
+            FlowKind::Unzip => Line {
                 name: "flow.Unzip",
                 inports: &["pair"],
                 outports: &["a", "b"],
                 params: &[],
                 slots: &[],
             },
-            FlowKind::Change => Entry {
+            FlowKind::Change => Line {
                 name: "flow.Change",
                 inports: &["token"],
                 outports: &["token"],
@@ -370,50 +370,50 @@ impl Kind {
         }
     }
 
-    fn calc_entry(kind: CalcKind) -> Entry
-        ensures name { result.name.now ≡ (calc_entry kind).name }
-        ensures inports { map (λ text. text.now) result.inports.now ≡ (calc_entry kind).inports }
-        ensures outports { map (λ text. text.now) result.outports.now ≡ (calc_entry kind).outports }
-        ensures params { map taking result.params.now ≡ (calc_entry kind).params }
-        ensures slots { result.slots.now ≡ (calc_entry kind).slots }
+    fn calc_line(kind: CalcKind) -> Line
+        ensures name { result.name.now ≡ (calc_line kind).name }
+        ensures inports { map (λ text. text.now) result.inports.now ≡ (calc_line kind).inports }
+        ensures outports { map (λ text. text.now) result.outports.now ≡ (calc_line kind).outports }
+        ensures params { map taking result.params.now ≡ (calc_line kind).params }
+        ensures slots { result.slots.now ≡ (calc_line kind).slots }
     {
         match kind {
-            CalcKind::Add => Entry {
+            CalcKind::Add => Line {
                 name: "math.Add",
                 inports: &["a", "b"],
                 outports: &["result"],
                 params: &[],
                 slots: &[],
             },
-            CalcKind::Subtract => Entry {
+            CalcKind::Subtract => Line {
                 name: "math.Subtract",
                 inports: &["a", "b"],
                 outports: &["result"],
                 params: &[],
                 slots: &[],
             },
-            CalcKind::Multiply => Entry {
+            CalcKind::Multiply => Line {
                 name: "math.Multiply",
                 inports: &["a", "b"],
                 outports: &["result"],
                 params: &[],
                 slots: &[],
             },
-            CalcKind::Divide => Entry {
+            CalcKind::Divide => Line {
                 name: "math.Divide",
                 inports: &["a", "b"],
                 outports: &["result"],
                 params: &[],
                 slots: &[],
             },
-            CalcKind::Modulo => Entry {
+            CalcKind::Modulo => Line {
                 name: "math.Modulo",
                 inports: &["a", "b"],
                 outports: &["result"],
                 params: &[],
                 slots: &[],
             },
-            CalcKind::Compare => Entry {
+            CalcKind::Compare => Line {
                 name: "math.Compare",
                 inports: &["a", "b"],
                 outports: &["result"],
@@ -424,21 +424,21 @@ impl Kind {
                 }],
                 slots: &[],
             },
-            CalcKind::Concat => Entry {
+            CalcKind::Concat => Line {
                 name: "text.Concat",
                 inports: &["a", "b"],
                 outports: &["text"],
                 params: &[],
                 slots: &[],
             },
-            CalcKind::Length => Entry {
+            CalcKind::Length => Line {
                 name: "text.Length",
                 inports: &["text"],
                 outports: &["integer"],
                 params: &[],
                 slots: &[],
             },
-            CalcKind::Prefix => Entry {
+            CalcKind::Prefix => Line {
                 name: "text.Prefix",
                 inports: &["text"],
                 outports: &["text"],
@@ -449,21 +449,21 @@ impl Kind {
                 }],
                 slots: &[],
             },
-            CalcKind::JsonText => Entry {
+            CalcKind::JsonText => Line {
                 name: "json.Text",
                 inports: &["token"],
                 outports: &["text"],
                 params: &[],
                 slots: &[],
             },
-            CalcKind::JsonParse => Entry {
+            CalcKind::JsonParse => Line {
                 name: "json.Parse",
                 inports: &["text"],
                 outports: &["token"],
                 params: &[],
                 slots: &[],
             },
-            CalcKind::JsonGet => Entry {
+            CalcKind::JsonGet => Line {
                 name: "json.Get",
                 inports: &["container"],
                 outports: &["value"],
@@ -474,7 +474,7 @@ impl Kind {
                 }],
                 slots: &[],
             },
-            CalcKind::Not => Entry {
+            CalcKind::Not => Line {
                 name: "logic.Not",
                 inports: &["a"],
                 outports: &["result"],

@@ -11,6 +11,7 @@ pub mod Right
 pub mod Covers
 pub mod Agrees
 pub mod Spelled
+pub mod Named
 pub mod Stood
 pub mod Causes
 pub mod Faulty

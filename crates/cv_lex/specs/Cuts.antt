@@ -3,7 +3,7 @@ use Rattle.std.specs.Prelude.{◌≡◌, ℕ, ◌+◌, ◌-◌, ◌<◌, ◌≤�
 use Rattle.std.specs.Str.{IsCharBoundary}
 use Rattle.cv_lex.specs.declared.lexeme.Sort.TheVariants as sorts
 use Rattle.cv_lex.specs.declared.lexeme.Lexeme.{Lexeme}
-use Rattle.cv_lex.specs.Shapes.{Fits}
+use Rattle.cv_lex.specs.Shapes.{Fits, IsName}
 use Rattle.cv_lex.specs.Words.{bytes_of}
 
 -- the lexeme has bytes, they are in the source and keep the limits of their sort, and neither they nor those between the
@@ -17,3 +17,7 @@ pub record IsCut (source : List ℕ) (lexeme : Lexeme) : Type 0 where
   pub opened : IsCharBoundary source (lexeme.at + 1)
   pub closed : IsCharBoundary source (lexeme.at + lexeme.len - 1)
   pub end : IsCharBoundary source (lexeme.at + lexeme.len)
+
+-- the lexeme of a name is a name
+abbrev pub IsNamed : List ℕ → Lexeme → Type 0
+IsNamed source lexeme = lexeme.sort ≡ sorts.Name → IsName (bytes_of source lexeme)

@@ -6,6 +6,7 @@ pub mod escapes;
 pub mod fronts;
 pub mod lexeme;
 pub mod lexing;
+pub mod name_text;
 pub mod numbers;
 pub mod saying;
 pub mod spans;
@@ -14,6 +15,7 @@ pub mod wording;
 
 pub use lexeme::{LexFault, Lexeme, Sort};
 pub use lexing::{before_a_space, lex, one_spelling};
+pub use name_text::NameText;
 pub use word::{Mark, Placed, Reserved, Word};
 pub use wording::words;
 

@@ -3,6 +3,7 @@
 ghost use Rattle.std.specs.Prelude.{◌≡◌, ◌<◌, length};
 ghost use Rattle.cv_lex.specs.Words.{mark_of, reserved_of};
 
+use crate::name_text::NameText;
 use cv_token::Text;
 
 /// The marks.
@@ -41,7 +42,7 @@ pub enum Reserved {
 /// A lexeme with what it says. A reserved name is no `Name`.
 #[derive(Drop)]
 pub enum Word {
-    Name(Text),
+    Name(NameText),
     Reserved(Reserved),
     Int(i64),
     /// The letters of the number, as written.

@@ -1,12 +1,13 @@
 //! Lexemes turned into words.
 
 ghost use Rattle.std.specs.Prelude.{◌≡◌, ◌<◌, ◌≤◌, length, map, Ok, IfOk, All};
-ghost use Rattle.cv_lex.specs.Cuts.{IsCut};
+ghost use Rattle.cv_lex.specs.Cuts.{IsCut, IsNamed};
 ghost use Rattle.cv_lex.specs.Lexemes.{lexemes};
-ghost use Rattle.cv_lex.specs.Shapes.{Fits};
+ghost use Rattle.cv_lex.specs.Shapes.{Fits, IsName};
 ghost use Rattle.cv_lex.specs.Words.{name_word, reserved_of, bytes_of, inside_of, placed_word};
 
 use crate::lexeme::{Lexeme, Sort};
+use crate::name_text::NameText;
 use crate::numbers::int_value;
 use crate::saying::said;
 use crate::word::{Placed, Word, mark_of, reserved_of};
@@ -22,11 +23,12 @@ fn owned(alloc: Global, part: &str) -> Result<Text, OutOfMemory>
 
 /// The word of a name.
 fn name_word(alloc: Global, name: &str) -> Result<Word, OutOfMemory>
+    requires { IsName name.now }
     ensures { IfOk result (λ word. word ≡ name_word name.now (reserved_of name.now)) }
 {
     match reserved_of(name) {
         Some(word) => Ok(Word::Reserved(word)),
-        None => Ok(Word::Name(owned(alloc, name)?)),
+        None => Ok(Word::Name(NameText::new(owned(alloc, name)?))),
     }
 }
 
@@ -54,7 +56,8 @@ fn inside_of<'a>(source: &'a str, lexeme: &Lexeme) -> &'a str
 
 /// The word that a lexeme of the source is.
 fn word_of(alloc: Global, source: &str, lexeme: &Lexeme) -> Result<Word, OutOfMemory>
-    requires { IsCut source.now lexeme.now }
+    requires cut { IsCut source.now lexeme.now }
+    requires named { IsNamed source.now lexeme.now }
     ensures { IfOk result (λ word. word ≡ (placed_word source.now lexeme.now).word) }
 {
     let part = part_of(source, lexeme);

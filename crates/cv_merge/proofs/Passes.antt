@@ -11,7 +11,7 @@ use Rattle.cv_solo.specs.declared.stream.Stream.{Stream}
 use Rattle.cv_solo.specs.OneRuntime.{Runtime}
 use Rattle.cv_node.specs.LiveState.{LiveState, sent, received, first_held, first_out}
 use Rattle.cv_node.specs.NodeRow.{changed, token_for, room_for, passed, pass_at}
-use Rattle.cv_kinds.specs.Wired.{IsWired}
+use Rattle.cv_kinds.specs.Wired.{IsWired, HasOneReader}
 use Rattle.cv_merge.proofs.Lists.{and_then_some, length_set}
 use Rattle.cv_merge.proofs.Ports.{inlet, outlet, changed_here, changed_there, inlet_at_sent, outlet_at_sent, outlet_at_sent_other, outlet_at_received, inlet_at_received, inlet_at_received_other}
 use Rattle.cv_merge.proofs.Agree.{Alike, AlikeAt, Flow, Agrees}
@@ -111,29 +111,29 @@ more_here place c t same = ap (λ (b : Bool). if b then t ∷ [] else []) (eq-eq
 more_there : (place c : ℕ) (t : Token) → (place ≡ c → ⊥) → more_at place (Some t) c ≡ []
 more_there place c t apart = ap (λ (b : Bool). if b then t ∷ [] else []) (ne_eqb place c apart)
 
-flow_at : (net : Net) (actors : List LiveState) (r : Runtime) (g : ℕ → List Token) (place : ℕ) (j : Join) (t : Token) → IsWired net → Agrees net actors r g → slice_get net.connections place ≡ Some j → token_for actors j ≡ Some t → (c : ℕ) (k : Join) (st : Stream) → slice_get net.connections c ≡ Some k → slice_get r.streams c ≡ Some st → (place ≡ c) ⊎ (place ≡ c → ⊥) → Flow (inlet (slice_get (moved_over actors j t) k.to) k.inp) (outlet (slice_get (moved_over actors j t) k.from) k.out) st (g c ++ more_at place (Some t) c)
-flow_at net actors r g place j t wired agrees at held c k st at_join at_stream (inl same) =
+flow_at : (net : Net) (actors : List LiveState) (r : Runtime) (g : ℕ → List Token) (place : ℕ) (j : Join) (t : Token) → IsWired net → HasOneReader net → Agrees net actors r g → slice_get net.connections place ≡ Some j → token_for actors j ≡ Some t → (c : ℕ) (k : Join) (st : Stream) → slice_get net.connections c ≡ Some k → slice_get r.streams c ≡ Some st → (place ≡ c) ⊎ (place ≡ c → ⊥) → Flow (inlet (slice_get (moved_over actors j t) k.to) k.inp) (outlet (slice_get (moved_over actors j t) k.from) k.out) st (g c ++ more_at place (Some t) c)
+flow_at net actors r g place j t wired single agrees at held c k st at_join at_stream (inl same) =
     let joined : j ≡ k = let e : slice_get net.connections place ≡ slice_get net.connections c = ap (slice_get net.connections) same in cc in
     let old = agrees.flows c k st at_join at_stream in
     let old_here = subst (λ (x : Join). Flow (inlet (slice_get actors x.to) x.inp) (outlet (slice_get actors x.from) x.out) st (g c)) (sym joined) old in
     let new = flow_here actors j t st (g c) old_here held in
     subst (λ (x : List Token). Flow (inlet (slice_get (moved_over actors j t) k.to) k.inp) (outlet (slice_get (moved_over actors j t) k.from) k.out) st (g c ++ x)) (sym (more_here place c t same))
     (subst (λ (x : Join). Flow (inlet (slice_get (moved_over actors j t) x.to) x.inp) (outlet (slice_get (moved_over actors j t) x.from) x.out) st (g c ++ t ∷ [])) joined new)
-flow_at net actors r g place j t wired agrees at held c k st at_join at_stream (inr apart) =
+flow_at net actors r g place j t wired single agrees at held c k st at_join at_stream (inr apart) =
     let old = agrees.flows c k st at_join at_stream in
     subst (λ (x : List Token). Flow (inlet (slice_get (moved_over actors j t) k.to) k.inp) (outlet (slice_get (moved_over actors j t) k.from) k.out) st x) (sym (ap (λ (x : List Token). g c ++ x) (more_there place c t apart) ∙ append-nil (g c)))
     (flow_carry _ _ _ _ _ _ (g c)
     (sym (inlet_there actors j t k.to k.inp (λ same_actor same_port. apart (sym (wired.one_writer c place k j at_join at same_actor same_port)))))
-    (sym (outlet_there actors j t k.from k.out (λ same_actor same_port. apart (sym (wired.one_reader c place k j at_join at same_actor same_port)))))
+    (sym (outlet_there actors j t k.from k.out (λ same_actor same_port. apart (sym (single c place k j at_join at same_actor same_port)))))
     refl
     old)
 
-pub agrees_pass : (net : Net) (actors : List LiveState) (r : Runtime) (g : ℕ → List Token) (place : ℕ) (j : Join) (t : Token) → IsWired net → Agrees net actors r g → slice_get net.connections place ≡ Some j → token_for actors j ≡ Some t → Agrees net (moved_over actors j t) r (λ c. g c ++ more_at place (Some t) c)
-agrees_pass net actors r g place j t wired agrees at held = record {
+pub agrees_pass : (net : Net) (actors : List LiveState) (r : Runtime) (g : ℕ → List Token) (place : ℕ) (j : Join) (t : Token) → IsWired net → HasOneReader net → Agrees net actors r g → slice_get net.connections place ≡ Some j → token_for actors j ≡ Some t → Agrees net (moved_over actors j t) r (λ c. g c ++ more_at place (Some t) c)
+agrees_pass net actors r g place j t wired single agrees at held = record {
   alike = λ b.
       alike_changed (changed actors j.from (λ l. sent l j.out)) j.to (λ l. received l j.inp t) (slice_get net.actors b) (slice_get r.slots b) b (λ o x. alike_received (slice_get net.actors b) o (slice_get r.slots b) j.inp t x) (cases_eq b j.to)
       (alike_changed actors j.from (λ l. sent l j.out) (slice_get net.actors b) (slice_get r.slots b) b (λ o x. alike_sent (slice_get net.actors b) o (slice_get r.slots b) j.out x) (cases_eq b j.from) (agrees.alike b));
-  flows = λ c k st at_join at_stream. flow_at net actors r g place j t wired agrees at held c k st at_join at_stream (cases_eq place c);
+  flows = λ c k st at_join at_stream. flow_at net actors r g place j t wired single agrees at held c k st at_join at_stream (cases_eq place c);
   unfed = λ b p q none is. agrees.unfed b p q none (sym (inlet_there actors j t b p (λ same_actor same_port. none place j at (sym same_actor) (sym same_port))) ∙ is);
   all = agrees.all;
 }

@@ -17,7 +17,7 @@ use Rattle.cv_node.specs.declared.event.Event.{Event}
 use Rattle.cv_node.specs.declared.event.Event.TheVariants as event
 use Rattle.cv_node.specs.LiveState.{LiveState}
 use Rattle.cv_node.specs.NodeRow.{NodeState, replay, row, stamped, entry_row, deploy_row, with_actors, pass_at, fire_at, token_for, is_first_app, starting_from, opening}
-use Rattle.cv_kinds.specs.Wired.{IsWired}
+use Rattle.cv_kinds.specs.Wired.{IsWired, HasOneReader}
 use Rattle.cv_merge.specs.Streams.{firing_of, firings, moved, put_by, got_from, got, InOrder, deploys, EveryRun, StreamsInOrder}
 use Rattle.cv_merge.proofs.Lists.{and_then_some, take_before, get_replicate}
 use Rattle.cv_merge.proofs.Ports.{inlet, outlet}
@@ -57,15 +57,15 @@ acted s true None u done = cc
 acted s true (Some actors) u done = (actors, refl, cc)
 
 -- a row keeps it, beside a firing of the one runtime where the row is one
-row_holds : (net : Net) (s u : NodeState) (r : Runtime) (g : ℕ → List Token) (happens : Event) → IsWired net → Holds net s r g → row s happens ≡ Some u → (after : Runtime) × (solo_from net r (firing_of happens) ≡ Some after) × Holds net u after (λ c. g c ++ put_by s happens c)
-row_holds net s u r g (event.Deploy name other) wired holds done =
+row_holds : (net : Net) (s u : NodeState) (r : Runtime) (g : ℕ → List Token) (happens : Event) → IsWired net → HasOneReader net → Holds net s r g → row s happens ≡ Some u → (after : Runtime) × (solo_from net r (firing_of happens) ≡ Some after) × Holds net u after (λ c. g c ++ put_by s happens c)
+row_holds net s u r g (event.Deploy name other) wired single holds done =
     let none : deploy_row s other true ≡ Some u = subst (λ (b : Bool). deploy_row s other b ≡ Some u) holds.deployed done in
     cc
-row_holds net s u r g (event.Pass conn) wired holds done =
+row_holds net s u r g (event.Pass conn) wired single holds done =
     let w = acted s (is_first_app conn.app) (pass_at s.connections s.actors conn.place) u done in
     let m = moves net.connections s.actors w.0 conn.place (subst (λ (js : List Join). pass_at js s.actors conn.place ≡ Some w.0) holds.connections w.1) in
     let token : moved s conn.place ≡ Some m.token = ap (λ (js : List Join). option_and_then (λ j. token_for s.actors j) (slice_get js conn.place)) holds.connections ∙ ap (option_and_then (λ (j : Join). token_for s.actors j)) m.at ∙ m.held in
-    let new = agrees_pass net s.actors r g conn.place m.join m.token wired holds.agrees m.at m.held in
+    let new = agrees_pass net s.actors r g conn.place m.join m.token wired single holds.agrees m.at m.held in
     let there = subst (λ (o : Option Token). Agrees net (moved_over s.actors m.join m.token) r (λ c. g c ++ more_at conn.place o c)) (sym token) new in
     let after : Holds net (record s { actors = w.0 }) r (λ c. g c ++ put_by s (event.Pass conn) c) = record {
       deployed = holds.deployed;
@@ -73,7 +73,7 @@ row_holds net s u r g (event.Pass conn) wired holds done =
       agrees = subst (λ (x : List LiveState). Agrees net x r (λ c. g c ++ more_at conn.place (moved s conn.place) c)) m.becomes there;
     } in
     (r, refl, subst (λ (x : NodeState). Holds net x r (λ c. g c ++ put_by s (event.Pass conn) c)) w.2 after)
-row_holds net s u r g (event.Fire actor action) wired holds done =
+row_holds net s u r g (event.Fire actor action) wired single holds done =
     let w = acted s (is_first_app actor.app) (fire_at s.actors actor.actor action) u done in
     let v = agrees_fire net s.actors w.0 r g actor.actor action holds.agrees w.1 in
     let plain : Holds net (record s { actors = w.0 }) v.0 g = record { deployed = holds.deployed; connections = holds.connections; agrees = v.2 } in
@@ -86,17 +86,17 @@ got_more s next e es c before done =
     let by : List Token = put_by s e.event c in
     append_assoc before by (got_from next es c) ∙ ap (λ (o : Option NodeState). before ++ (by ++ option_map_or (λ n. got_from n es c) o [])) (sym done)
 
-run : (net : Net) (es : List Entry) (s t : NodeState) (r : Runtime) (g : ℕ → List Token) → IsWired net → Holds net s r g → replay s es ≡ Some t → (after : Runtime) × (solo_from net r (firings es) ≡ Some after) × Holds net t after (λ c. g c ++ got_from s es c)
-run net [] s t r g wired holds done =
+run : (net : Net) (es : List Entry) (s t : NodeState) (r : Runtime) (g : ℕ → List Token) → IsWired net → HasOneReader net → Holds net s r g → replay s es ≡ Some t → (after : Runtime) × (solo_from net r (firings es) ≡ Some after) × Holds net t after (λ c. g c ++ got_from s es c)
+run net [] s t r g wired single holds done =
     let same : s ≡ t = cc in
     (r, refl, subst (λ (x : NodeState). Holds net x r (λ c. g c ++ [])) same (holds_carry net s r g (λ c. g c ++ []) (λ c. sym (append-nil (g c))) holds))
-run net (e ∷ es) s t r g wired holds done =
+run net (e ∷ es) s t r g wired single holds done =
     let w = and_then_some (λ (next : NodeState). replay next es) (entry_row s e) t done in
     let d = entry_done e.stamp (row s e.event) _ w.0 w.1 in
-    let v = row_holds net s d.0 r g e.event wired holds d.1 in
+    let v = row_holds net s d.0 r g e.event wired single holds d.1 in
     let one : ℕ → List Token = λ c. g c ++ put_by s e.event c in
     let here : Holds net (record d.0 { stamp = e.stamp }) v.0 one = record { deployed = v.2.deployed; connections = v.2.connections; agrees = v.2.agrees } in
-    let rest = run net es w.0 t v.0 one wired (subst (λ (x : NodeState). Holds net x v.0 one) d.2 here) w.2 in (
+    let rest = run net es w.0 t v.0 one wired single (subst (λ (x : NodeState). Holds net x v.0 one) d.2 here) w.2 in (
       rest.0,
       solo_then net (firing_of e.event) (firings es) r v.0 rest.0 v.1 rest.1,
       holds_carry net t rest.0 (λ c. one c ++ got_from w.0 es c) (λ c. g c ++ got_from s (e ∷ es) c)
@@ -161,11 +161,11 @@ taken_first g st ordered =
     sym (take-take st.took (length g) st.wrote few) ∙ ap (take st.took) ordered.prefix
 
 -- after the first entry, and before it
-after_start : (net : Net) (name : List ℕ) (begins rest : List Entry) (s : NodeState) → IsWired net → replay opening (deploys name net ∷ begins ++ rest) ≡ Some s → StreamsInOrder net (deploys name net ∷ begins)
-after_start net name begins rest s wired done =
+after_start : (net : Net) (name : List ℕ) (begins rest : List Entry) (s : NodeState) → IsWired net → HasOneReader net → replay opening (deploys name net ∷ begins ++ rest) ≡ Some s → StreamsInOrder net (deploys name net ∷ begins)
+after_start net name begins rest s wired single done =
     let start : NodeState = record { stamp = 1; deployed = true; connections = net.connections; actors = starting_from net.connections 0 net.actors } in
     let u = front begins rest start s done in
-    let w = run net begins start u.0 (solo_opening net) (λ c. []) wired (record { deployed = refl; connections = refl; agrees = agrees_start net wired }) u.1 in
+    let w = run net begins start u.0 (solo_opening net) (λ c. []) wired single (record { deployed = refl; connections = refl; agrees = agrees_start net wired }) u.1 in
     let received : ℕ → List Token = got (deploys name net ∷ begins) in (
       u.0,
       w.0,
@@ -199,9 +199,9 @@ before_start net wired = (
 )
 
 pub every_run : EveryRun
-every_run net name entries [] rest s wired done split = before_start net wired
-every_run net name entries (e ∷ begins) rest s wired done split =
+every_run net name entries [] rest s wired single done split = before_start net wired
+every_run net name entries (e ∷ begins) rest s wired single done split =
     let first : deploys name net ≡ e = cc in
     let behind : entries ≡ begins ++ rest = cc in
     let all : replay opening (deploys name net ∷ begins ++ rest) ≡ Some s = subst (λ (es : List Entry). replay opening (deploys name net ∷ es) ≡ Some s) behind done in
-    subst (λ (x : Entry). StreamsInOrder net (x ∷ begins)) first (after_start net name begins rest s wired all)
+    subst (λ (x : Entry). StreamsInOrder net (x ∷ begins)) first (after_start net name begins rest s wired single all)

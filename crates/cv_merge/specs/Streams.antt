@@ -13,7 +13,7 @@ use Rattle.cv_node.specs.declared.event.Event.{Event}
 use Rattle.cv_node.specs.declared.event.Event.TheVariants as event
 use Rattle.cv_node.specs.LiveState.{LiveState}
 use Rattle.cv_node.specs.NodeRow.{NodeState, opening, replay, entry_row, token_for}
-use Rattle.cv_kinds.specs.Wired.{IsWired}
+use Rattle.cv_kinds.specs.Wired.{IsWired, HasOneReader}
 
 -- the actor and the action of each firing of a journal, in order
 abbrev pub firing_of : Event → List (ℕ × ℕ)
@@ -64,6 +64,6 @@ StreamsInOrder net entries = (s : NodeState) × (r : Runtime) × Keeps net entri
 abbrev pub deploys : List ℕ → Net → Entry
 deploys name net = record { stamp = 1; event = event.Deploy name net }
 
--- each beginning of each journal of a well-formed network that is a local run
+-- each beginning of each journal of a well-formed network, whose outports have one reader at most, that is a local run
 abbrev pub EveryRun : Type 0
-EveryRun = (net : Net) (name : List ℕ) (entries begins rest : List Entry) (s : NodeState) → IsWired net → replay opening (deploys name net ∷ entries) ≡ Some s → deploys name net ∷ entries ≡ begins ++ rest → StreamsInOrder net begins
+EveryRun = (net : Net) (name : List ℕ) (entries begins rest : List Entry) (s : NodeState) → IsWired net → HasOneReader net → replay opening (deploys name net ∷ entries) ≡ Some s → deploys name net ∷ entries ≡ begins ++ rest → StreamsInOrder net begins

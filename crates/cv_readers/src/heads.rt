@@ -5,7 +5,7 @@ ghost use Rattle.cv_readers.specs.Reading.{is_mark, is_reserved, Gives, GivesRes
 
 use crate::name::Name;
 use crate::stop::Stop;
-use cv_lex::{Mark, Placed, Reserved, Word};
+use cv_lex::{Mark, NameText, Placed, Reserved, Word};
 use cv_token::Text;
 use std::alloc::Global;
 
@@ -112,7 +112,7 @@ pub fn take_text(alloc: Global, words: &[Placed]) -> Result<(Text, &[Placed]), S
 }
 
 /// The name that has to stand first, without its place, and the words behind it.
-pub fn take_bare(alloc: Global, words: &[Placed]) -> Result<(Text, &[Placed]), Stop>
+pub fn take_bare(alloc: Global, words: &[Placed]) -> Result<(NameText, &[Placed]), Stop>
     ensures value { Gives result (bare_at words.now) }
     ensures shorter { IfOk result (λ p. length p.1.now < length words.now) }
 {

@@ -1,10 +1,10 @@
 //! A name of a script, with its place.
 
-use cv_token::Text;
+use cv_lex::NameText;
 
 /// A name, and the place of its first byte in the source.
 #[derive(Drop)]
 pub struct Name {
-    pub text: Text,
+    pub text: NameText,
     pub at: u32,
 }

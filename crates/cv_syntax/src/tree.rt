@@ -1,5 +1,6 @@
 //! A script as it is written. An `at` is the place, in bytes, of the lexeme at which a fault can stand.
 
+use cv_lex::NameText;
 use cv_readers::Name;
 use cv_token::{Pair, Text};
 use sqlite_items::{Boxed, Items};
@@ -41,9 +42,9 @@ pub struct Arg {
 #[derive(Drop)]
 pub enum KindName {
     /// `A`, a component.
-    Plain(Text),
+    Plain(NameText),
     /// `std.Constant`, a kind.
-    Dotted(Text, Text),
+    Dotted(NameText, NameText),
 }
 
 /// `name : kind(args)`.
@@ -59,11 +60,11 @@ pub struct Declare {
 pub enum Source {
     Voidport,
     /// `.port`, an inport of the component itself.
-    Own(Text),
+    Own(NameText),
     /// `actor.port`, an outport.
-    Port(Text, Text),
+    Port(NameText, NameText),
     /// A bare name, which stands for a value.
-    Name(Text),
+    Name(NameText),
     Literal(Literal),
 }
 
@@ -72,9 +73,9 @@ pub enum Source {
 pub enum Target {
     Voidport,
     /// `.port`, an outport of the component itself.
-    Own(Text),
+    Own(NameText),
     /// `actor.port`, an inport.
-    Port(Text, Text),
+    Port(NameText, NameText),
 }
 
 /// A target, and the place of its first lexeme.

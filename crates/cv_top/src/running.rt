@@ -11,7 +11,7 @@ ghost use Rattle.cv_solo.specs.OneRuntime.{Runtime, opening, solo, solo_from};
 ghost use Rattle.cv_solo.specs.PlainNetwork.{IsPlainRun};
 ghost use Rattle.cv_top.specs.Printed.{firings_of, last_lines, end_word, IsTextWhereDefined};
 ghost use Rattle.cv_merge.specs.Streams.{firing_of};
-ghost use Rattle.cv_kinds.specs.Wired.{IsWired};
+ghost use Rattle.cv_kinds.specs.Wired.{HasOneReader, IsWired};
 ghost use Rattle.cv_top.specs.Ran.{IsRightRun, IsRightRounds, IsRightRunBy, RoundsEnd, end_at};
 ghost use Rattle.cv_top.specs.Answers.{IsRunAnswer};
 
@@ -67,7 +67,8 @@ fn run_network(
     runner: Runner,
     most: u32,
 ) -> Result<Answer, OutOfMemory>
-    requires { IsWired net }
+    requires wired { IsWired net }
+    requires one_reader { HasOneReader net }
     ensures { IfOk result (λ answer. (stop : Stop) × (answer.end ≡ end_at stop) × IsRightRunBy runner net most stop answer.merged (string_bytes answer.text)) }
 {
     match runner {
@@ -112,7 +113,8 @@ fn make_rounds(alloc: Global, solo: &mut Solo, most: u32) -> Result<(Stop, u32),
 /// Runs a network on one node, with so many firings at most.
 #[tactic(auto, using(crate::proofs::Rights::right_run))]
 fn run_on_node(alloc: Global, net: Network, most: u32) -> Result<Answer, OutOfMemory>
-    requires { IsWired net }
+    requires wired { IsWired net }
+    requires one_reader { HasOneReader net }
     ensures { IfOk result (λ answer. (stop : Stop) × (answer.end ≡ end_at stop) × IsRightRun net most stop answer.merged (string_bytes answer.text)) }
 {
     let (stop, merged) = run_alone(alloc, net.copy(alloc)?, most)?;

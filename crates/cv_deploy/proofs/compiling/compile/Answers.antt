@@ -13,7 +13,10 @@ returns-in_err-script-clause-only c = λ net means.
     rw (p.1, p.2) (gives_err _ means.0 net (c.in_err-script.ensures.only means.0 (subst (λ (bs : List ℕ). SpellsScript bs means.0) (sym c.in-Ok.ensures.cases.0) means.1)))
 
 pub returns-in-Some-clause-wired : goal.returns-in-Some-clause-wired
-returns-in-Some-clause-wired c = network_is_wired c.in_ok-script.script.items c.in-Some.net (sym c.in_ok-net.ensures ∙ c.in-Some.is)
+returns-in-Some-clause-wired c = (network_is_wired c.in_ok-script.script.items c.in-Some.net (sym c.in_ok-net.ensures ∙ c.in-Some.is)).0
+
+pub returns-in-Some-clause-one_reader : goal.returns-in-Some-clause-one_reader
+returns-in-Some-clause-one_reader c = (network_is_wired c.in_ok-script.script.items c.in-Some.net (sym c.in_ok-net.ensures ∙ c.in-Some.is)).1
 
 pub returns-in-Some-clause-only : goal.returns-in-Some-clause-only
 returns-in-Some-clause-only c = λ net means.

@@ -3,5 +3,5 @@ use Rattle.cv_expand.specs.Lookup.{has}
 use Rattle.cv_expand.proofs.copying.has.Given as goal
 
 -- what is left decides
-abbrev pub invariant-loop-text : goal.invariant-loop-text
-invariant-loop-text l = has l.texts l.name ≡ has (drop l.text-index l.texts) l.name
+abbrev pub invariant-loop-one : goal.invariant-loop-one
+invariant-loop-one l = has l.names l.name ≡ has (drop l.one-index l.names) l.name
