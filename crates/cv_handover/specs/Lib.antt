@@ -1,0 +1,11 @@
+pub mod Agree
+pub mod Alone
+pub mod Attempts
+pub mod Goes
+pub mod Meaning
+pub mod Placed
+pub mod Rising
+pub mod Rounds
+pub mod Runs
+pub mod Runtimes
+pub mod World
