@@ -8,7 +8,7 @@ mod slots;
 
 pub use in_port::{InPort, Offered};
 pub use out_port::OutPort;
-pub use reader::{Reader, Readers, Subscription};
+pub use reader::{MOST_READERS, Reader, Readers, Subscription};
 
 #[cfg(test)]
 mod tests;

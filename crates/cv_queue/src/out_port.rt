@@ -4,7 +4,7 @@ ghost use Rattle.std.specs.Prelude.{◌≡◌, ℕ, ◌+◌, ◌-◌, ◌^◌, �
 ghost use Rattle.std.specs.Option.{option_copied};
 ghost use Rattle.cv_queue.specs.Ports.{place, reader_from, count, IsOutPort, AreWritten, count_of, first_needed_from, new_out, out_at, space, token_at, token_for, after_write, acknowledges, after_ack, after_rewind, after_sent, HasUnsent, IsThere};
 
-use crate::reader::{Reader, Readers};
+use crate::reader::{MOST_READERS, Reader, Readers};
 use crate::slots::{copied, drop_front, reserved};
 use cv_token::{Items, OutOfMemory, Token};
 use std::alloc::Global;
@@ -24,7 +24,7 @@ pub struct OutPort {
 }
 
 impl Model for OutPort {
-    ghost use Rattle.std.specs.Prelude.{◌≤◌};
+    ghost use Rattle.std.specs.Prelude.{◌≤◌, length};
     ghost use Rattle.std.specs.Vec.{vec_capacity};
     ghost use Rattle.cv_queue.specs.Ports.{OutView, out_code, IsOutPort};
 
@@ -34,7 +34,7 @@ impl Model for OutPort {
 
     ghost view = { λ p. record { held = p.held.items; write = p.write; cap = p.cap; readers = p.readers.items } };
 
-    ghost invariant = { λ p. IsOutPort (record { held = p.held.items; write = p.write; cap = p.cap; readers = p.readers.items }) × (p.cap ≤ vec_capacity p.held) };
+    ghost invariant = { λ p. IsOutPort (record { held = p.held.items; write = p.write; cap = p.cap; readers = p.readers.items }) × (p.cap ≤ vec_capacity p.held) × (length p.readers.items ≤ 65535) };
 }
 
 /// The number, in the port, of reader `k`'s own token number `n`, where there are `readers` of them.
@@ -75,7 +75,8 @@ fn reader_at(readers: &[Reader], k: u16) -> Reader
 
 /// Readers that have acknowledged nothing yet.
 fn anew(alloc: Global, readers: &Readers) -> Result<Vec<Reader>, OutOfMemory>
-    ensures { IfOk result (λ list. list.items ≡ map (reader_from 0) readers.now) }
+    ensures value { IfOk result (λ list. list.items ≡ map (reader_from 0) readers.now) }
+    ensures few { length readers.now ≤ 65535 }
 {
     let list = readers.as_slice();
     list.iter().map(|s| s.reader(0)).collect(alloc)
@@ -83,7 +84,8 @@ fn anew(alloc: Global, readers: &Readers) -> Result<Vec<Reader>, OutOfMemory>
 
 /// Readers to whom nothing was sent beyond what they have acknowledged.
 fn resumed(alloc: Global, readers: &Readers) -> Result<Vec<Reader>, OutOfMemory>
-    ensures { IfOk result (λ list. list.items ≡ map (λ s. reader_from s.acked s) readers.now) }
+    ensures value { IfOk result (λ list. list.items ≡ map (λ s. reader_from s.acked s) readers.now) }
+    ensures few { length readers.now ≤ 65535 }
 {
     let list = readers.as_slice();
     list.iter().map(|s| s.reader(s.acked)).collect(alloc)
@@ -184,6 +186,14 @@ impl OutPort {
         ensures { result ≡ space self.now }
     {
         self.cap - self.len()
+    }
+
+    /// How many readers the port has.
+    pub fn readers(&self) -> u16
+        ensures { result ≡ length self.now.readers }
+    {
+        prove!(self.readers.len() <= MOST_READERS);
+        self.readers.len() as u16
     }
 
     /// The reader at place `i`, where there is one.

@@ -1,6 +1,6 @@
 //! Readers of an outport, and the list from which a port's readers are made.
 
-ghost use Rattle.std.specs.Prelude.{◌≡◌, [], ◌∷◌, ◌++◌, length, OnOk, OnErr};
+ghost use Rattle.std.specs.Prelude.{◌≡◌, ◌<◌, ◌≤◌, [], ◌∷◌, ◌++◌, length, OnOk, OnErr};
 
 use cv_token::{ActorId, ConnId, OutOfMemory};
 use std::alloc::Global;
@@ -40,19 +40,24 @@ impl Subscription {
     }
 }
 
-/// The readers to be of an outport, in order. Contracts see them as a list.
+/// The most readers that a port has.
+pub const MOST_READERS: usize = 65535;
+
+/// The readers to be of an outport, in order. Contracts see them as a list, of at most 65,535.
 #[derive(Debug, Drop)]
 pub struct Readers {
     list: Vec<Subscription>,
 }
 
 impl Model for Readers {
-    ghost use Rattle.std.specs.Prelude.{List};
+    ghost use Rattle.std.specs.Prelude.{◌≤◌, List, length};
     ghost use Rattle.cv_queue.specs.declared.reader.Subscription.{Subscription};
 
     ghost Value = { List Subscription };
 
     ghost view = { λ r. r.list.items };
+
+    ghost invariant = { λ r. length r.list.items ≤ 65535 };
 }
 
 impl Readers {
@@ -67,6 +72,7 @@ impl Readers {
 
     /// The readers that the `Vec` lists; it takes no memory.
     pub fn from_vec(list: Vec<Subscription>) -> Readers
+        requires { length list.items ≤ 65535 }
         ensures { result ≡ list.items }
     {
         Readers { list }
@@ -74,7 +80,8 @@ impl Readers {
 
     /// The `Vec` of these readers; it takes no memory.
     pub fn into_vec(self) -> Vec<Subscription>
-        ensures { result.items ≡ self }
+        ensures value { result.items ≡ self }
+        ensures few { length self ≤ 65535 }
     {
         let Readers { list } = self;
         list
@@ -82,13 +89,15 @@ impl Readers {
 
     /// The readers, in order.
     pub fn as_slice(&self) -> &[Subscription]
-        ensures { result.now ≡ self.now }
+        ensures value { result.now ≡ self.now }
+        ensures few { length result.now ≤ 65535 }
     {
         self.list.as_slice()
     }
 
     /// One more reader, at the end.
     pub fn push(&mut self, reader: Subscription) -> Result<(), OutOfMemory>
+        requires { length self.old < 65535 }
         ensures ok { OnOk result (self.new ≡ self.old ++ reader ∷ []) }
         ensures err { OnErr result (self.new ≡ self.old) }
     {

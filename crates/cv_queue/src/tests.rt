@@ -25,9 +25,10 @@ fn is_number(token: Option<&Token>, n: i64) -> bool {
 }
 
 // A reader for each number of acknowledged tokens.
-fn readers(alloc: Global, acked: &[u64]) -> Result<Readers, OutOfMemory> {
+fn readers(rt: &impl Abort, alloc: Global, acked: &[u64]) -> Result<Readers, OutOfMemory> {
     let mut list = Readers::new(alloc);
     for upto in acked {
+        assert!(rt; list.as_slice().len() < MOST_READERS);
         list.push(Subscription {
             conn: ConnId { app: APP, place: 3 },
             consumer: ActorId { app: APP, actor: 5 },
@@ -109,7 +110,7 @@ fn outports_stand_so(rt: HostRuntime) -> Result<(), Fail> {
         (4, 9, 0, [9, 9], true),
     ];
     for (cap, written, count, acked, stands) in rows {
-        let list = readers(rt.alloc(), &acked)?;
+        let list = readers(&rt, rt.alloc(), &acked)?;
         let port = OutPort::of(rt.alloc(), cap, written, numbers(rt.alloc(), count)?, list)?;
         assert_eq!(rt; port.is_some(), stands);
         if let Some(port) = port {
@@ -123,7 +124,7 @@ fn outports_stand_so(rt: HostRuntime) -> Result<(), Fail> {
         4,
         9,
         numbers(rt.alloc(), 1)?,
-        readers(rt.alloc(), &[])?,
+        readers(&rt, rt.alloc(), &[])?,
     )?;
     assert!(rt; unread.is_none());
     Ok(())
@@ -143,7 +144,7 @@ fn ack(rt: &impl Abort, port: &mut OutPort, reader: u16, upto: u64) -> bool {
 // Two readers: a token goes when both have acknowledged it.
 #[test]
 fn tokens_go_when_all_have_them(rt: HostRuntime) -> Result<(), Fail> {
-    let mut port = OutPort::new(rt.alloc(), 4, readers(rt.alloc(), &[5, 0])?)?;
+    let mut port = OutPort::new(rt.alloc(), 4, readers(&rt, rt.alloc(), &[5, 0])?)?;
     for n in 0..4 {
         write(&rt, &mut port, n);
     }
@@ -169,7 +170,7 @@ fn tokens_go_when_all_have_them(rt: HostRuntime) -> Result<(), Fail> {
 
 #[test]
 fn readers_are_sent_to_and_rewound(rt: HostRuntime) -> Result<(), Fail> {
-    let list = readers(rt.alloc(), &[0])?;
+    let list = readers(&rt, rt.alloc(), &[0])?;
     assert_eq!(rt; list.as_slice().len(), 1);
     let list = Readers::from_vec(list.into_vec());
     let mut port = OutPort::new(rt.alloc(), 4, list)?;

@@ -1,6 +1,7 @@
 use Rattle.std.proofs.Common.{◌≡◌, ℕ, ◌-◌, ◌≤◌, List, length, drop, Some, ap, ◌∙◌, arith}
 use Rattle.std.specs.Prelude.{slice_get}
 use Rattle.cv_queue.specs.declared.reader.Reader.{Reader}
+use Rattle.std.proofs.lemmas.List.{length-set}
 use Rattle.cv_queue.specs.Ports.{OutView, count, count_of, with_reader, first_needed, first_needed_from, first_held}
 use Rattle.cv_queue.proofs.Kept.{keeps_ack, needed_from}
 use Rattle.cv_queue.proofs.out_port.OutPort.ack.Goals as goal
@@ -29,4 +30,4 @@ invariant_of-self c =
     let d : c.drop_front.new.slots.items ≡ drop (first_needed (with_reader o k r c.args.upto c.max.result) - first_held o) o.held = c.drop_front.ensures.items ∙ ap (λ (m : ℕ). drop m o.held) n in
     let m : c.count_among.result ≡ count_of o k = c.count_among.ensures ∙ ap (λ (s : ℕ). count s c.self.inside.write k) (omega (arith, c.len.ensures, c.self.inside.readers.ok.0)) in
     let s : c.max.result ≤ count_of o k = omega (arith, m, c.max.ensures, (c.self.invariant.0.in_order k r g).1) in
-    (rw d (keeps_ack o k r c.args.upto c.max.result g (omega arith) (omega arith) s c.self.invariant.0), omega arith)
+    (rw d (keeps_ack o k r c.args.upto c.max.result g (omega arith) (omega arith) s c.self.invariant.0), omega arith, omega (arith, length-set {A = Reader}, c.self.invariant.2))

@@ -1,6 +1,8 @@
 use Rattle.std.proofs.Common.{◌≡◌, ℕ, Some, sym, subst, arith}
 use Rattle.std.specs.Prelude.{slice_get, IsSomeAnd}
 use Rattle.std.proofs.lemmas.Option.{slice_get_within}
+use Rattle.std.proofs.lemmas.List.{length-set}
+use Rattle.cv_queue.specs.declared.reader.Reader.{Reader}
 use Rattle.cv_queue.specs.Ports.{OutView, spread, HasUnsent}
 use Rattle.cv_queue.proofs.Positions.{count_within}
 use Rattle.cv_queue.proofs.Kept.{unsent, keeps_mark}
@@ -25,4 +27,4 @@ invariant_of-self c =
     let g : slice_get o.readers k ≡ Some c.reader_at-before.result = cc in
     let h : IsSomeAnd (slice_get o.readers c.args.reader) (HasUnsent o c.args.reader) = subst (λ (v : OutView). IsSomeAnd (slice_get v.readers c.args.reader) (HasUnsent v c.args.reader)) (sym c.self.view_is) c.requires in
     let u : IsSomeAnd (slice_get o.readers k) (HasUnsent o k) = subst (λ (n : ℕ). IsSomeAnd (slice_get o.readers n) (HasUnsent o n)) (sym c.from.ensures) h in
-    (keeps_mark o k c.reader_at-before.result g (unsent o k c.reader_at-before.result g u) c.self.invariant.0, c.self.invariant.1)
+    (keeps_mark o k c.reader_at-before.result g (unsent o k c.reader_at-before.result g u) c.self.invariant.0, c.self.invariant.1, omega (arith, length-set {A = Reader}, c.self.invariant.2))

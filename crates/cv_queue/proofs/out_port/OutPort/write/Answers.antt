@@ -11,4 +11,4 @@ invariant_of-self-2 c =
     let some : 0 < length o.readers = grind (arith, common_steps, c.self.inside.readers.ok.0) in
     let room : 1 ≤ space o = subst (λ (v : OutView). 1 ≤ space v) (sym c.self.view_is) c.requires.room in
     let small : o.write < 2 ^ 62 = subst (λ (v : OutView). v.write < 2 ^ 62) (sym c.self.view_is) c.requires.number in
-    (rw e (keeps_write o c.args.token some room small c.self.invariant.0), omega arith)
+    (rw e (keeps_write o c.args.token some room small c.self.invariant.0), omega arith, c.self.invariant.2)

@@ -1,0 +1,4 @@
+pub mod Found
+pub mod Gifts
+pub mod Sights
+pub mod Starts
