@@ -13,7 +13,7 @@ use Rattle.cv_kinds.proofs.Lines.{few_ports}
 use Rattle.cv_protocol.specs.Actors.{LiveState}
 use Rattle.cv_protocol.specs.Poll.{limit, Fires, all_inlets_fit, all_outs_fit, first_crowded, first_given, fired, inputs, live_fits, look, row_at, with_given, with_token, without_needed}
 use Rattle.cv_actor.specs.Room.{has_room, have_numbers, takes}
-use Rattle.cv_actor.specs.Shape.{IsShaped}
+use Rattle.cv_protocol.specs.Actors.{IsShaped}
 use Rattle.cv_actor.proofs.Sights.{less, not_crowded, ready}
 
 -- 1. Ports

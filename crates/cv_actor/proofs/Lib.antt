@@ -1,4 +1,5 @@
 pub mod Found
 pub mod Gifts
+pub mod Settled
 pub mod Sights
 pub mod Starts

@@ -63,3 +63,15 @@ pub(crate) fn seat_of(conn: ConnId, ins: &[Option<Inlet>]) -> Option<u8>
     }
     None
 }
+
+/// The first reader of the connection among these outports.
+pub fn reader_among(conn: ConnId, outs: &[OutPort]) -> Option<Reader>
+    ensures { result ≡ option_map (λ s. s.reader) (spot_of conn 0 outs.now) }
+{
+    for port in outs {
+        if let Some((_number, reader)) = reader_of(conn, port) {
+            return Some(reader);
+        }
+    }
+    None
+}

@@ -4,14 +4,20 @@
 pub mod act;
 pub mod finding;
 mod firing;
+pub mod law;
 pub mod live;
 mod looking;
 mod making;
 pub mod numbers;
 pub mod outlook;
+mod passing;
+pub mod rewinding;
+mod travel;
 
 pub use act::{Act, Polled};
-pub use finding::Spot;
-pub use live::Live;
+pub use finding::{Spot, reader_among};
+pub use law::comes_back_as_it_left;
+pub use live::{Live, capture, restore};
 pub use numbers::LIMIT;
 pub use outlook::Outlook;
+pub use rewinding::Rewinding;

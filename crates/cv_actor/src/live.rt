@@ -5,8 +5,10 @@ ghost use Rattle.std.specs.Option.{option_copied, option_copied_mut, option_map}
 ghost use Rattle.std.specs.Borrow.{sem};
 ghost use Rattle.cv_protocol.specs.Poll.{look, Fires, poll, fired, row_at, all_outs_fit, live_fits};
 ghost use Rattle.cv_protocol.specs.Rows.{inlet_at, seat_of, spot_of};
-ghost use Rattle.cv_protocol.specs.Travel.{first_due, new_live};
+ghost use Rattle.cv_protocol.specs.NodeState.{rewound_towards};
+ghost use Rattle.cv_protocol.specs.Travel.{capture, first_due, new_live, restore};
 ghost use Rattle.cv_actor.specs.Ends.{spot_in};
+ghost use Rattle.cv_actor.specs.Passing.{MayPass, can_pass, passed};
 ghost use Rattle.cv_actor.specs.Polled.{seen, foreseen, peeked, IsNew};
 
 use crate::finding;
@@ -16,11 +18,13 @@ use crate::looking::{first_crowded, first_short, first_unread, guard_head};
 use crate::making::{new_inlets, new_outs};
 use crate::numbers::{LIMIT, all_fit_taken, all_outs_fit, have_numbers};
 use crate::outlook::{Outlook, Sight};
+use crate::passing::pass;
+use crate::travel::{cancel_all, rewind_all, rewind_all_towards};
 use cv_behave::{Behave, Effect};
 use cv_kinds::{ActorSpec, Join, Kind, Network, actions};
-use cv_protocol::{Inlet, Need};
+use cv_protocol::{ActorState, Hints, Inlet, Need, StateParts, copy_inlets, copy_outs};
 use cv_queue::{InPort, OutPort};
-use cv_token::{ActorId, ConnId, Items, OutOfMemory, Text};
+use cv_token::{ActorId, ConnId, Items, OutOfMemory, Text, copy_items};
 use std::alloc::Global;
 use std::marker::Model;
 
@@ -38,8 +42,7 @@ pub struct Live {
 
 impl Model for Live {
     ghost use Rattle.std.specs.Prelude.{length};
-    ghost use Rattle.cv_protocol.specs.Actors.{LiveState, live_code};
-    ghost use Rattle.cv_actor.specs.Shape.{IsShaped};
+    ghost use Rattle.cv_protocol.specs.Actors.{IsShaped, LiveState, live_code};
 
     ghost Value = { LiveState };
 
@@ -326,6 +329,28 @@ impl Live {
         self.outs.get_mut(usize::from(port))
     }
 
+    /// Passes the reader's first token that is not acknowledged on to an inport of this actor. It answers false exactly
+    /// where there is no such token or the inport is full; then nothing changes, as at want of memory.
+    pub fn pass_self(
+        &mut self,
+        alloc: Global,
+        out: u8,
+        reader: u16,
+        inp: u8,
+    ) -> Result<bool, OutOfMemory>
+        requires { MayPass reader (slice_get self.old.actor.outs out) (inlet_at self.old inp) }
+        ensures answer { IfOk result (λ moved. moved ≡ can_pass reader (slice_get self.old.actor.outs out) (inlet_at self.old inp)) }
+        ensures after { OnOk result (self.new ≡ passed self.old out reader inp (slice_get self.old.actor.outs out)) }
+        ensures err { OnErr result (self.new ≡ self.old) }
+    {
+        pass(
+            alloc,
+            &mut self.outs[usize::from(out)],
+            reader,
+            &mut self.ins[usize::from(inp)],
+        )
+    }
+
     /// The connection that feeds the inport, and the actor at its other end; None as `inp`.
     pub fn feed(&self, port: u8) -> Option<(ConnId, ActorId)>
         ensures { result ≡ option_map (λ i. (i.conn, i.producer)) (inlet_at self.now port) }
@@ -334,5 +359,99 @@ impl Live {
             Some(Some(inlet)) => Some((inlet.conn, inlet.producer)),
             _ => None,
         }
+    }
+}
+
+impl Live {
+    /// An equal actor of its own.
+    pub fn copy(&self, alloc: Global) -> Result<Live, OutOfMemory>
+        ensures { IfOk result (λ live. live ≡ self.now) }
+    {
+        let spec = self.spec.copy(alloc)?;
+        let slots = copy_items(alloc, &self.slots)?;
+        let ins = copy_inlets(alloc, self.ins.as_slice())?;
+        let outs = copy_outs(alloc, self.outs.as_slice())?;
+        Ok(Live {
+            id: self.id,
+            spec,
+            slots,
+            due: self.due,
+            attempt: self.attempt,
+            ins,
+            outs,
+        })
+    }
+
+    /// What `capture` would give; nothing changes here.
+    pub fn state(
+        &self,
+        alloc: Global,
+        hints: Hints,
+        now: u64,
+    ) -> Result<ActorState, OutOfMemory>
+        ensures { IfOk result (λ state. state ≡ capture self.now hints now) }
+    {
+        let live = self.copy(alloc)?;
+        Ok(capture(live, hints, now))
+    }
+
+    /// What was sent to that actor and not acknowledged is to be sent again.
+    pub fn rewind_towards(&mut self, actor: ActorId)
+        ensures { self.new ≡ rewound_towards actor self.old }
+    {
+        rewind_all_towards(&mut self.outs, actor);
+    }
+}
+
+/// What travels of a live actor: its tentative reads are given up, and what its readers have not acknowledged is to
+/// be sent again. It takes no memory.
+pub fn capture(live: Live, hints: Hints, now: u64) -> ActorState
+    ensures { result ≡ capture live hints now }
+{
+    let Live {
+        id,
+        spec,
+        slots,
+        due,
+        attempt: _attempt,
+        mut ins,
+        mut outs,
+    } = live;
+    cancel_all(&mut ins);
+    rewind_all(&mut outs);
+    ActorState::from_parts(StateParts {
+        id,
+        spec,
+        slots,
+        wait: due.saturating_sub(now),
+        ins,
+        outs,
+        hints,
+    })
+}
+
+/// The actor that travelled lives again, by this attempt; it waits as long as it still had to. It takes no memory.
+pub fn restore(state: ActorState, attempt: u64, now: u64) -> Live
+    requires { now + state.wait < 2 ^ 64 }
+    ensures { result ≡ restore state attempt now }
+{
+    let StateParts {
+        id,
+        spec,
+        slots,
+        wait,
+        ins,
+        mut outs,
+        hints: _hints,
+    } = state.into_parts();
+    rewind_all(&mut outs);
+    Live {
+        id,
+        spec,
+        slots,
+        due: now + wait,
+        attempt,
+        ins,
+        outs,
     }
 }

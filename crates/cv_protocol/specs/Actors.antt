@@ -1,12 +1,14 @@
 -- An actor: what it is, its slots and its ports, wherever it is.
-use Rattle.std.specs.Prelude.{ℕ, List, Option, refl}
+use Rattle.std.specs.Prelude.{◌≡◌, ℕ, List, Option, refl}
 use Rattle.std.specs.Coded.{Coded, code_by, coded×, coded_ℕ, coded_list, coded_option}
 use Rattle.cv_token.specs.declared.token.Token.{Token}
 use Rattle.cv_token.specs.contracts.token.Token as token
 use Rattle.cv_token.specs.declared.identifiers.ActorId.{ActorId}
 use Rattle.cv_token.specs.contracts.identifiers.ActorId as actor
+use Rattle.cv_kinds.specs.declared.kind.Kind.{Kind}
 use Rattle.cv_kinds.specs.declared.network.ActorSpec.{ActorSpec}
 use Rattle.cv_kinds.specs.contracts.network.ActorSpec as spec
+use Rattle.cv_kinds.specs.KindRow.{row_of}
 use Rattle.cv_queue.specs.Ports.{OutView, out_code}
 use Rattle.cv_protocol.specs.declared.state.Inlet.{Inlet}
 use Rattle.cv_protocol.specs.contracts.state.Inlet as inlet
@@ -21,6 +23,11 @@ pub record Actor : Type 0 where
   pub slots : List Token
   pub ins : List (Option Inlet)
   pub outs : List OutView
+
+-- an actor has the ports of its kind's row
+pub record IsShaped (k : Kind) (ins outs : ℕ) : Type 0 where
+  pub inports : ins ≡ (row_of k).inports
+  pub outports : outs ≡ (row_of k).outports
 
 -- an actor that lives: the moment from which a timed action may fire, and the attempt by which it came to live
 pub record LiveState : Type 0 where

@@ -16,4 +16,4 @@ pub use law::{causes_are_exact, stamps_rise};
 pub use moving::{Application, Frozen, Judged, Location};
 pub use poll::Need;
 pub use refusal::StepRefusal;
-pub use state::{ActorState, Hint, Hints, Inlet, StateParts};
+pub use state::{ActorState, Hint, Hints, Inlet, StateParts, copy_inlets, copy_outs};

@@ -1,0 +1,10 @@
+use Rattle.std.proofs.Common.{◌≡◌, ◌++◌, length, map, take, drop}
+use Rattle.cv_protocol.specs.Travel.{rewound_reader}
+use Rattle.cv_actor.proofs.travel.rewind_readers.Given as goal
+
+abbrev pub invariant-loop-number : goal.invariant-loop-number
+invariant-loop-number l = record {
+  rest : l.out ≡ record (l.fn.out) { readers = l.out.readers };
+  many : length l.out.readers ≡ l.number-end;
+  whole : take l.number l.out.readers ++ map rewound_reader (drop l.number l.out.readers) ≡ map rewound_reader l.fn.out.readers;
+}
