@@ -1,0 +1,12 @@
+pub mod Connecting
+pub mod Following
+pub mod Judging
+pub mod Leaping
+pub mod Lists
+pub mod Lookups
+pub mod Names
+pub mod Numbers
+pub mod Refusing
+pub mod Segments
+pub mod Single
+pub mod Whole

@@ -1,0 +1,9 @@
+pub mod Arguments
+pub mod Checks
+pub mod Faults
+pub mod Links
+pub mod Meaning
+pub mod Ports
+pub mod Tables
+pub mod Values
+pub mod Ways
