@@ -1,7 +1,10 @@
 -- The cause of each refusal of the bytes of a script.
-use Rattle.std.proofs.Common.{◌≡◌, ℕ, List, length, Some, None, Ok, Err, sym, ap, ◌∙◌, subst}
+use Rattle.std.proofs.Common.{◌≡◌, ℕ, List, length, Ok, Err, sym, subst}
 use Rattle.std.specs.Str.{IsUtf8}
 use Rattle.cv_lex.specs.declared.lexeme.Lexeme.{Lexeme}
+use Rattle.cv_lex.specs.declared.lexeme.LexFault.{LexFault}
+use Rattle.cv_lex.specs.declared.lexeme.LexFault.TheVariants as lexing
+use Rattle.cv_lex.specs.Faults.{IsCaused as IsLexCaused}
 use Rattle.cv_lex.specs.Spelling.{Spells as SpellsLexemes}
 use Rattle.cv_syntax.specs.declared.fault.ParseFault.{ParseFault}
 use Rattle.cv_syntax.specs.declared.fault.ParseFault.TheVariants as parsing
@@ -10,10 +13,8 @@ use Rattle.cv_syntax.specs.Parsing.{words_of, FailsAt}
 use Rattle.cv_deploy.specs.declared.fault.Fault.{Fault}
 use Rattle.cv_deploy.specs.declared.fault.NoNetwork.{NoNetwork}
 use Rattle.cv_deploy.specs.declared.fault.NoNetwork.TheVariants as refusal
-use Rattle.cv_kinds.specs.Net.{Net}
 use Rattle.cv_syntax.specs.declared.tree.Script.{Script}
-use Rattle.cv_deploy.specs.Faults.{HasCode, IsCaused, ParsedTo, Gives, Refuses}
-use Rattle.cv_deploy.specs.Meaning.{network_of}
+use Rattle.cv_deploy.specs.Faults.{HasCode, IsCaused, LexedTo, ParsedTo, Gives, Refuses}
 
 not_ok : (script : Script) (fault : ParseFault) → Ok script ≡ Err fault → ⊥
 not_ok script fault e = cc
@@ -32,20 +33,24 @@ pub gives_err : {X Y : Type 0} → (e : NoNetwork) (x : X) (y : Y) → Gives {X 
 gives_err (refusal.Script fault) x y none = none
 gives_err refusal.OutOfMemory x y none = tt
 
--- one script has one network
-pub same_meaning : (a b : Script) (n m : Net) → a ≡ b → network_of a.items ≡ Some n → network_of b.items ≡ Some m → n ≡ m
-same_meaning a b n m same first second = some_same (sym first ∙ ap (λ (s : Script). network_of s.items) same ∙ second)
-  where
-    some_same : Some n ≡ Some m → n ≡ m
-    some_same e = cc
-
-pub no_meaning : (a b : Script) (m : Net) → a ≡ b → network_of a.items ≡ None → network_of b.items ≡ Some m → ⊥
-no_meaning a b m same first second = none (sym first ∙ ap (λ (s : Script). network_of s.items) same ∙ second)
-  where
-    none : None ≡ Some m → ⊥
-    none e = cc
-
 -- a refusal by want of memory refuses any fault
 pub refuses_err : {X : Type 0} → (Y : Type 0) (e : NoNetwork) (x : X) (fault : Fault) → Gives {X = X} (Err e) x → Refuses {X = Y} (Err e) fault
 refuses_err Y (refusal.Script told) x fault none = absurd none
 refuses_err Y refusal.OutOfMemory x fault none = tt
+
+-- a fault of the lexemes is one of the bytes
+pub lex_caused : (bytes : List ℕ) (fault : LexFault) (r : NoNetwork) → IsUtf8 bytes → IsLexCaused bytes fault → LexedTo bytes fault r → IsCaused bytes r
+lex_caused bytes (lexing.BadChar at) (refusal.Script f) utf8 is told = subst (HasCode bytes f) (sym told.1) (utf8, (at, is, told.0))
+lex_caused bytes (lexing.BadChar at) refusal.OutOfMemory utf8 is told = tt
+lex_caused bytes (lexing.OpenText at) (refusal.Script f) utf8 is told = subst (HasCode bytes f) (sym told.1) (utf8, (at, is, told.0))
+lex_caused bytes (lexing.OpenText at) refusal.OutOfMemory utf8 is told = tt
+lex_caused bytes (lexing.OpenComment at) (refusal.Script f) utf8 is told = subst (HasCode bytes f) (sym told.1) (utf8, (at, is, told.0))
+lex_caused bytes (lexing.OpenComment at) refusal.OutOfMemory utf8 is told = tt
+lex_caused bytes (lexing.WideNumber at) (refusal.Script f) utf8 is told = subst (HasCode bytes f) (sym told.1) (utf8, (at, is, told.0))
+lex_caused bytes (lexing.WideNumber at) refusal.OutOfMemory utf8 is told = tt
+lex_caused bytes (lexing.BadEscape at) (refusal.Script f) utf8 is told = subst (HasCode bytes f) (sym told.1) (utf8, (at, is, told.0))
+lex_caused bytes (lexing.BadEscape at) refusal.OutOfMemory utf8 is told = tt
+lex_caused bytes (lexing.LongName at) (refusal.Script f) utf8 is told = subst (HasCode bytes f) (sym told.1) (utf8, (at, is, told.0))
+lex_caused bytes (lexing.LongName at) refusal.OutOfMemory utf8 is told = tt
+lex_caused bytes lexing.OutOfMemory (refusal.Script f) utf8 is told = cc
+lex_caused bytes lexing.OutOfMemory refusal.OutOfMemory utf8 is told = tt

@@ -1,6 +1,3 @@
-pub mod Apart
 pub mod Causes
-pub mod Finding
-pub mod Networks
-pub mod Passing
-pub mod Wiring
+pub mod Saying
+pub mod Wires

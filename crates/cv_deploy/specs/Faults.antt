@@ -1,7 +1,14 @@
 -- The fault of a script: its cause, and its place as line and column.
-use Rattle.std.specs.Prelude.{◌≡◌, ℕ, ◌+◌, ◌==◌, Bool, not, List, length, take, reverse, Some, None, Result, Ok, Err, codes}
+use Rattle.std.specs.Prelude.{◌≡◌, ℕ, ◌+◌, ◌==◌, Bool, not, List, length, take, reverse, Option, Some, None, Result, Ok, Err, codes}
 use Rattle.std.specs.List.{prefix_len, count_by}
 use Rattle.std.specs.Str.{IsUtf8}
+use Rattle.cv_expand.specs.declared.fault.ExpandFault.{ExpandFault}
+use Rattle.cv_expand.specs.declared.fault.ExpandFault.TheVariants as expanding
+use Rattle.cv_expand.specs.declared.flat.Parts.{Parts}
+use Rattle.cv_expand.specs.Meaning.{meaning}
+use Rattle.cv_graph.specs.declared.fault.GraphFault.{GraphFault}
+use Rattle.cv_graph.specs.declared.fault.GraphFault.TheVariants as joining
+use Rattle.cv_graph.specs.Checks.{checks, IsFirst}
 use Rattle.cv_kinds.specs.Net.{Net}
 use Rattle.cv_lex.specs.declared.lexeme.Lexeme.{Lexeme}
 use Rattle.cv_lex.specs.declared.lexeme.LexFault.{LexFault}
@@ -10,6 +17,7 @@ use Rattle.cv_lex.specs.Faults.{HasFault as HasLexFault}
 use Rattle.cv_lex.specs.Spelling.{Spells as SpellsLexemes}
 use Rattle.cv_syntax.specs.declared.fault.ParseFault.{ParseFault}
 use Rattle.cv_syntax.specs.declared.fault.ParseFault.TheVariants as parsing
+use Rattle.cv_syntax.specs.declared.tree.Item.{Item}
 use Rattle.cv_syntax.specs.declared.tree.Script.{Script}
 use Rattle.cv_syntax.specs.Grammar.{Spells as SpellsTree, IsFault}
 use Rattle.cv_syntax.specs.Parsing.{words_of}
@@ -18,7 +26,7 @@ use Rattle.cv_deploy.specs.declared.fault.Code.TheVariants as code
 use Rattle.cv_deploy.specs.declared.fault.Fault.{Fault}
 use Rattle.cv_deploy.specs.declared.fault.NoNetwork.{NoNetwork}
 use Rattle.cv_deploy.specs.declared.fault.NoNetwork.TheVariants as refusal
-use Rattle.cv_deploy.specs.Meaning.{network_of}
+use Rattle.cv_deploy.specs.Meaning.{first_word, IsWhole, StandsFor}
 
 -- ---- places
 
@@ -45,7 +53,7 @@ SpellsScript bytes script = IsUtf8 bytes × ((found : List Lexeme) × SpellsLexe
 
 -- the bytes spell a script that stands for the network
 abbrev pub Means : List ℕ → Net → Type 0
-Means bytes net = (script : Script) × SpellsScript bytes script × (network_of script.items ≡ Some net)
+Means bytes net = (script : Script) × SpellsScript bytes script × StandsFor script.items net
 
 -- the lexemes spell no script
 abbrev pub SpellNone : List ℕ → List Lexeme → Type 0
@@ -62,6 +70,49 @@ abbrev pub FailsToParse : List ℕ → (ℕ → ParseFault) → Fault → Type 0
 FailsToParse bytes cause fault =
     IsUtf8 bytes × ((found : List Lexeme) × (at : ℕ) × SpellsLexemes 0 bytes found × SpellNone bytes found × IsFault (length bytes) (words_of bytes found) (cause at) × StandsAt bytes at fault)
 
+-- a code, and the place at which it stands
+pub record Said : Type 0 where
+  pub code : Code
+  pub at : ℕ
+
+abbrev pub said : Code → ℕ → Option Said
+said c at = Some (record { code = c; at = at })
+
+-- what a fault of the walk says; want of memory says nothing
+abbrev pub expand_said : ExpandFault → Option Said
+expand_said (expanding.NoComponent at) = said code.NoComponent at
+expand_said (expanding.Recursion at) = said code.Recursion at
+expand_said (expanding.ArgCount at) = said code.ArgCount at
+expand_said (expanding.NoArg at) = said code.NoArg at
+expand_said (expanding.DoubleName at) = said code.DoubleName at
+expand_said (expanding.TooMany at) = said code.TooMany at
+expand_said expanding.OutOfMemory = None
+
+-- what a fault of kinds, arguments and joins says
+abbrev pub graph_said : GraphFault → Option Said
+graph_said (joining.NoKind at) = said code.NoKind at
+graph_said (joining.Fraction at) = said code.Fraction at
+graph_said (joining.BadArg at) = said code.BadArg at
+graph_said (joining.NoPort at) = said code.NoPort at
+graph_said (joining.FedTwice at) = said code.FedTwice at
+graph_said (joining.Unfed at) = said code.Unfed at
+graph_said (joining.BatchOverQueue at) = said code.BatchOverQueue at
+graph_said joining.OutOfMemory = None
+
+-- the first fault of a script is of its walk, or else of its parts; where there is none, the first rule or apply is one
+pub data FaultOf (script : List Item) (s : Said) : Type 0 where
+  of_walk : (e : ExpandFault) → meaning script ≡ Err e → expand_said e ≡ Some s → FaultOf script s
+  of_parts : (parts : Parts) (e : GraphFault) → meaning script ≡ Ok parts → IsFirst parts (checks parts) e → graph_said e ≡ Some s → FaultOf script s
+  of_rules : (parts : Parts) (at : ℕ) → IsWhole script parts → first_word script ≡ Some at → said code.Unbuilt at ≡ Some s → FaultOf script s
+
+-- the script has this fault, at its line and column
+abbrev pub HasScriptFault : List ℕ → List Item → Fault → Type 0
+HasScriptFault bytes script fault = (at : ℕ) × FaultOf script (record { code = fault.code; at = at }) × StandsAt bytes at fault
+
+-- the bytes spell a script that has the fault
+abbrev pub SpellsFault : List ℕ → Fault → Type 0
+SpellsFault bytes fault = (script : Script) × SpellsScript bytes script × HasScriptFault bytes script.items fault
+
 abbrev pub IsAtFirst : Fault → Type 0
 IsAtFirst fault = (fault.line ≡ 1) × (fault.col ≡ 1)
 
@@ -76,7 +127,20 @@ HasCode bytes fault code.BadEscape = FailsToLex bytes lexing.BadEscape fault
 HasCode bytes fault code.LongName = FailsToLex bytes lexing.LongName fault
 HasCode bytes fault code.Unexpected = FailsToParse bytes parsing.Unexpected fault
 HasCode bytes fault code.TooDeep = FailsToParse bytes parsing.TooDeep fault
-HasCode bytes fault code.Unbuilt = ((script : Script) × SpellsScript bytes script × (network_of script.items ≡ None)) × IsAtFirst fault
+HasCode bytes fault code.NoComponent = SpellsFault bytes fault
+HasCode bytes fault code.Recursion = SpellsFault bytes fault
+HasCode bytes fault code.ArgCount = SpellsFault bytes fault
+HasCode bytes fault code.NoArg = SpellsFault bytes fault
+HasCode bytes fault code.DoubleName = SpellsFault bytes fault
+HasCode bytes fault code.TooMany = SpellsFault bytes fault
+HasCode bytes fault code.NoKind = SpellsFault bytes fault
+HasCode bytes fault code.Fraction = SpellsFault bytes fault
+HasCode bytes fault code.BadArg = SpellsFault bytes fault
+HasCode bytes fault code.NoPort = SpellsFault bytes fault
+HasCode bytes fault code.FedTwice = SpellsFault bytes fault
+HasCode bytes fault code.Unfed = SpellsFault bytes fault
+HasCode bytes fault code.BatchOverQueue = SpellsFault bytes fault
+HasCode bytes fault code.Unbuilt = SpellsFault bytes fault
 
 -- the bytes have the fault
 abbrev pub HasFault : List ℕ → Fault → Type 0
@@ -116,6 +180,19 @@ word_of code.BadEscape = codes "BadEscape"
 word_of code.LongName = codes "LongName"
 word_of code.Unexpected = codes "Unexpected"
 word_of code.TooDeep = codes "TooDeep"
+word_of code.NoComponent = codes "NoComponent"
+word_of code.Recursion = codes "Recursion"
+word_of code.ArgCount = codes "ArgCount"
+word_of code.NoArg = codes "NoArg"
+word_of code.DoubleName = codes "DoubleName"
+word_of code.TooMany = codes "TooMany"
+word_of code.NoKind = codes "NoKind"
+word_of code.Fraction = codes "Fraction"
+word_of code.BadArg = codes "BadArg"
+word_of code.NoPort = codes "NoPort"
+word_of code.FedTwice = codes "FedTwice"
+word_of code.Unfed = codes "Unfed"
+word_of code.BatchOverQueue = codes "BatchOverQueue"
 word_of code.Unbuilt = codes "Unbuilt"
 
 -- a refusal that says this code at this place
@@ -137,3 +214,13 @@ abbrev pub ParsedTo : List ℕ → ParseFault → NoNetwork → Type 0
 ParsedTo bytes (parsing.Unexpected at) r = SaysAt bytes at code.Unexpected r
 ParsedTo bytes (parsing.TooDeep at) r = SaysAt bytes at code.TooDeep r
 ParsedTo bytes parsing.OutOfMemory r = r ≡ refusal.OutOfMemory
+
+-- what is said becomes a refusal
+abbrev pub SaidTo : List ℕ → Option Said → NoNetwork → Type 0
+SaidTo bytes None r = r ≡ refusal.OutOfMemory
+SaidTo bytes (Some s) r = SaysAt bytes s.at s.code r
+
+-- the fault that was answered is the script's; want of memory says nothing
+abbrev pub IsScriptFault : List ℕ → List Item → NoNetwork → Type 0
+IsScriptFault bytes script (refusal.Script fault) = HasScriptFault bytes script fault
+IsScriptFault bytes script refusal.OutOfMemory = Unit {0}

@@ -1,26 +1,23 @@
 //! `compile`: from bytes to a network.
 
-ghost use Rattle.std.specs.Prelude.{◌≡◌, ◌≤◌, ◌^◌, length, IfOk, IfErr, None};
+ghost use Rattle.std.specs.Prelude.{◌≡◌, ◌≤◌, ◌^◌, length, IfOk, IfErr};
 ghost use Rattle.cv_kinds.specs.Net.{Net};
-ghost use Rattle.cv_kinds.specs.Wired.{HasOneReader, IsWired};
-ghost use Rattle.cv_deploy.specs.Faults.{Means, SpellsScript, Gives, Refuses, IsCaused, first_fault};
-ghost use Rattle.cv_deploy.specs.declared.fault.Code.TheVariants as code;
-ghost use Rattle.cv_syntax.specs.declared.tree.Script.{Script};
-ghost use Rattle.cv_deploy.specs.Meaning.{network_of};
+ghost use Rattle.cv_kinds.specs.Wired.{IsWired};
+ghost use Rattle.cv_deploy.specs.Faults.{Means, SpellsScript, Gives, Refuses, IsCaused, HasScriptFault, IsScriptFault, first_fault};
+ghost use Rattle.cv_deploy.specs.Meaning.{StandsFor};
+ghost use Rattle.cv_deploy.specs.declared.fault.Fault.{Fault};
 ghost use Rattle.cv_deploy.specs.declared.fault.NoNetwork.TheVariants as refusal;
+ghost use Rattle.cv_syntax.specs.declared.tree.Script.{Script};
 
-use crate::actors::{actors_of, places_of};
-use crate::arranging::arranged;
-use crate::connections::connections_of;
 use crate::fault::{Code, Fault, NoNetwork};
+use crate::placing::fault_at;
 use crate::reading::script_of;
+use crate::telling::{first_word, of_expand, of_graph};
+use cv_expand::expand;
+use cv_graph::network;
 use cv_kinds::Network;
 use cv_syntax::Script;
-use cv_token::OutOfMemory;
 use std::alloc::Global;
-
-/// The most actors that a network has.
-const MOST_ACTORS: usize = 256;
 
 /// The fault at the first byte with this code.
 fn at_first(of: Code) -> NoNetwork
@@ -34,49 +31,46 @@ fn at_first(of: Code) -> NoNetwork
 }
 
 /// The network that the bytes of a script stand for, or the script's first fault: no UTF-8, then the faults of its
-/// lexemes, those of its grammar, and last `Unbuilt` at 1:1 where it is not of the form that is built.
+/// lexemes, of its grammar, of its walk, of its kinds, arguments and joins, and last `Unbuilt` where it has a rule or an
+/// apply.
 pub fn compile(alloc: Global, bytes: &[u8]) -> Result<Network, NoNetwork>
     requires { length bytes.now ≤ 2 ^ 31 }
-    // What is answered is the network that the bytes mean, and its connections join ports that are there.
+    // What is answered is the network that the bytes mean.
     ensures found { IfOk result (Means bytes.now) }
+    // Its connections join ports that are there.
     ensures wired { IfOk result IsWired }
-    ensures one_reader { IfOk result HasOneReader }
     // Bytes that mean a network are answered with it, unless memory runs out.
     ensures only { (net : Net) → Means bytes.now net → Gives result net }
     // A fault is the bytes', at its place.
     ensures fault { IfErr result (IsCaused bytes.now) }
-    // Bytes that spell a script of another form are answered with Unbuilt, unless memory runs out.
-    ensures unbuilt { (script : Script) → SpellsScript bytes.now script → network_of script.items ≡ None → Refuses result (first_fault code.Unbuilt) }
+    // The fault of a script that the bytes spell is answered, unless memory runs out.
+    ensures refused { (script : Script) (fault : Fault) → SpellsScript bytes.now script → HasScriptFault bytes.now script.items fault → Refuses result fault }
 {
     let Ok(source) = std::str::from_utf8(bytes) else {
         return Err(at_first(Code::NotUtf8))
     };
     let script = script_of(alloc, source)?;
-    match network_of(alloc, &script)? {
-        Some(net) => Ok(net),
-        None => Err(at_first(Code::Unbuilt)),
-    }
+    network_of(alloc, bytes, &script)
 }
 
-/// The network of a script; None where it is not of the form that is built.
-fn network_of(alloc: Global, script: &Script) -> Result<Option<Network>, OutOfMemory>
-    ensures { IfOk result (λ found. found ≡ network_of script.now.items) }
+/// The network of a script that the bytes spell, or the script's first fault.
+fn network_of(alloc: Global, bytes: &[u8], script: &Script) -> Result<Network, NoNetwork>
+    requires { length bytes.now ≤ 2 ^ 31 }
+    ensures found { IfOk result (StandsFor (script.now).items) }
+    ensures only { (net : Net) → StandsFor (script.now).items net → Gives result net }
+    ensures fault { IfErr result (IsScriptFault bytes.now (script.now).items) }
+    ensures refused { (fault : Fault) → HasScriptFault bytes.now (script.now).items fault → Refuses result fault }
 {
-    let items = script.items.as_slice();
-    let Some(actors) = actors_of(alloc, items)? else {
-        return Ok(None)
+    let flat = match expand(alloc, script) {
+        Ok(flat) => flat,
+        Err(fault) => return Err(of_expand(bytes, fault)),
     };
-    if actors.len() > MOST_ACTORS {
-        return Ok(None);
-    }
-    let Some(places) = places_of(alloc, actors.as_slice())? else {
-        return Ok(None)
+    let net = match network(alloc, &flat) {
+        Ok(net) => net,
+        Err(fault) => return Err(of_graph(bytes, fault)),
     };
-    let Some(written) = connections_of(alloc, items, actors.as_slice(), &places)? else {
-        return Ok(None)
-    };
-    match arranged(alloc, actors.as_slice(), written.as_slice())? {
-        Some(connections) => Ok(Some(Network::new(actors, connections))),
-        None => Ok(None),
+    match first_word(script.items.as_slice()) {
+        Some(at) => Err(NoNetwork::Script(fault_at(bytes, at, Code::Unbuilt))),
+        None => Ok(net),
     }
 }

@@ -27,7 +27,33 @@ pub enum Code {
     Unexpected,
     /// The lexeme that opens the 17th level of a literal or an expression.
     TooDeep,
-    /// The script is not of the form that is built.
+    /// A declaration names a component that is not there.
+    NoComponent,
+    /// A component is declared inside itself.
+    Recursion,
+    /// A declaration gives a component more or fewer arguments than it has.
+    ArgCount,
+    /// An argument that the component lacks, or a name that stands for no value.
+    NoArg,
+    /// A name that is taken already.
+    DoubleName,
+    /// Over 256 actors and instances together, or over 4,096 joins.
+    TooMany,
+    /// An actor of a kind that is not there.
+    NoKind,
+    /// A number with a fraction for an argument that is no duration.
+    Fraction,
+    /// An argument that the kind lacks or does not take, or one that is missing.
+    BadArg,
+    /// A port that is not there.
+    NoPort,
+    /// A second join to one target.
+    FedTwice,
+    /// An inport to which no way leads from an actor or from `voidport`.
+    Unfed,
+    /// An action needs more tokens of an inport than may wait there.
+    BatchOverQueue,
+    /// A rule or an apply, in a script with no other fault.
     Unbuilt,
 }
 
@@ -72,6 +98,19 @@ impl Code {
             Code::LongName => "LongName",
             Code::Unexpected => "Unexpected",
             Code::TooDeep => "TooDeep",
+            Code::NoComponent => "NoComponent",
+            Code::Recursion => "Recursion",
+            Code::ArgCount => "ArgCount",
+            Code::NoArg => "NoArg",
+            Code::DoubleName => "DoubleName",
+            Code::TooMany => "TooMany",
+            Code::NoKind => "NoKind",
+            Code::Fraction => "Fraction",
+            Code::BadArg => "BadArg",
+            Code::NoPort => "NoPort",
+            Code::FedTwice => "FedTwice",
+            Code::Unfed => "Unfed",
+            Code::BatchOverQueue => "BatchOverQueue",
             Code::Unbuilt => "Unbuilt",
         }
     }

@@ -1,31 +1,57 @@
-use Rattle.std.proofs.Common.{◌≡◌, true, List, length, Some, None, option_map, nat_le, sym, ap, ap₂, ◌∙◌, arith}
-use Rattle.std.proofs.lemmas.Bool.Decides.{nat_tests}
-use Rattle.cv_kinds.specs.declared.network.ActorSpec.{ActorSpec}
-use Rattle.cv_kinds.specs.declared.network.Join.{Join}
-use Rattle.cv_deploy.proofs.Networks.{few_arranged, found_by}
+use Rattle.std.proofs.Common.{refl, sym, ◌∙◌, ap, subst}
+use Rattle.cv_deploy.specs.declared.fault.Code.{Code}
+use Rattle.cv_deploy.specs.Faults.{expand_said, graph_said, FaultOf}
+use Rattle.cv_deploy.specs.Meaning.{first_word}
+use Rattle.cv_deploy.proofs.Saying.{by_said, walk_said, parts_said, rules_said, same_fault, fault_refuses, fault_gives, network_refuses, one_meaning}
 use Rattle.cv_deploy.proofs.compiling.network_of.Goals as goal
 
-pub new-requires-clause-few_connections : goal.new-requires-clause-few_connections
-new-requires-clause-few_connections c =
-    few_arranged c.as_slice-3.result.now c.as_slice-4.result.now c.in-Some-4.connections.items
-    (sym c.in_ok-connections.ensures ∙ ap (option_map (λ v. v.items)) c.in-Some-4.is)
-    (rw c.as_slice-3.ensures.value (grind (arith, nat_tests, c.if-len-gt-MOST_ACTORS.false, c.len.ensures)))
+pub returns-in-Err-clause-fault : goal.returns-in-Err-clause-fault
+returns-in-Err-clause-fault c =
+    let items = c.args.script.now.items in
+    by_said c.args.bytes.now items (expand_said c.in-Err.fault) c.of_expand.result (walk_said items c.in-Err.fault c.in-Err.ensures.exact) c.of_expand.ensures
 
-pub returns-in-Some-4 : goal.returns-in-Some-4
-returns-in-Some-4 c =
-    let few : nat_le (length c.in-Some.actors.items) 256 ≡ true = grind (arith, nat_tests, c.if-len-gt-MOST_ACTORS.false, c.len.ensures) in
-    ap₂ (λ (actors : List ActorSpec) (connections : List Join). Some (record { actors = actors; connections = connections })) c.new.ensures.actors c.new.ensures.connections
-    ∙ sym (found_by c.args.script.now.items c.as_slice-items.result.now c.in-Some.actors.items c.as_slice.result.now c.as_slice-2.result.now c.as_slice-3.result.now c.in-Some-3.written.items c.as_slice-4.result.now (Some c.in-Some-4.connections.items)
-    c.as_slice-items.ensures c.as_slice.ensures.value c.as_slice-2.ensures.value c.as_slice-3.ensures.value c.as_slice-4.ensures.value
-    (sym (ap (option_map (λ v. v.items)) c.in-Some.is) ∙ c.in_ok-actors.ensures) few ((rw c.in-Some-2.is at c.in_ok-places.ensures).0)
-    (sym (ap (option_map (λ v. v.items)) c.in-Some-3.is) ∙ c.in_ok-written.ensures)
-    (sym (ap (option_map (λ v. v.items)) c.in-Some-4.is) ∙ c.in_ok-connections.ensures))
+pub returns-in-Err-network-clause-only : goal.returns-in-Err-network-clause-only
+returns-in-Err-network-clause-only c = λ net means.
+    let items = c.args.script.now.items in
+    let caused = by_said c.args.bytes.now items (graph_said c.in-Err-network.fault) c.of_graph.result (parts_said items c.in-Ok.flat c.in-Err-network.fault c.in-Ok.ensures.exact c.in-Err-network.ensures.judged) c.of_graph.ensures in
+    fault_gives c.args.bytes.now items c.of_graph.result net caused means
 
-pub returns-in-None : goal.returns-in-None
-returns-in-None c =
-    let few : nat_le (length c.in-Some.actors.items) 256 ≡ true = grind (arith, nat_tests, c.if-len-gt-MOST_ACTORS.false, c.len.ensures) in
-    sym (found_by c.args.script.now.items c.as_slice-items.result.now c.in-Some.actors.items c.as_slice.result.now c.as_slice-2.result.now c.as_slice-3.result.now c.in-Some-3.written.items c.as_slice-4.result.now None
-    c.as_slice-items.ensures c.as_slice.ensures.value c.as_slice-2.ensures.value c.as_slice-3.ensures.value c.as_slice-4.ensures.value
-    (sym (ap (option_map (λ v. v.items)) c.in-Some.is) ∙ c.in_ok-actors.ensures) few ((rw c.in-Some-2.is at c.in_ok-places.ensures).0)
-    (sym (ap (option_map (λ v. v.items)) c.in-Some-3.is) ∙ c.in_ok-written.ensures)
-    (sym (ap (option_map (λ v. v.items)) c.in-None.is) ∙ c.in_ok-connections.ensures))
+pub returns-in-Err-network-clause-fault : goal.returns-in-Err-network-clause-fault
+returns-in-Err-network-clause-fault c =
+    let items = c.args.script.now.items in
+    by_said c.args.bytes.now items (graph_said c.in-Err-network.fault) c.of_graph.result (parts_said items c.in-Ok.flat c.in-Err-network.fault c.in-Ok.ensures.exact c.in-Err-network.ensures.judged) c.of_graph.ensures
+
+pub returns-in-Err-network-clause-refused : goal.returns-in-Err-network-clause-refused
+returns-in-Err-network-clause-refused c = λ fault is.
+    let items = c.args.script.now.items in
+    let caused = by_said c.args.bytes.now items (graph_said c.in-Err-network.fault) c.of_graph.result (parts_said items c.in-Ok.flat c.in-Err-network.fault c.in-Ok.ensures.exact c.in-Err-network.ensures.judged) c.of_graph.ensures in
+    fault_refuses c.args.bytes.now items c.of_graph.result fault caused is
+
+pub returns-in-Some-clause-fault : goal.returns-in-Some-clause-fault
+returns-in-Some-clause-fault c =
+    let items = c.args.script.now.items in
+    let word = sym (c.in-Some.ensures ∙ ap first_word c.as_slice.ensures) in
+    (c.in-Some.at,
+      subst (λ (code : Code). FaultOf items (record { code = code; at = c.in-Some.at })) (sym c.fault_at.ensures.code) (rules_said items c.in-Ok.flat c.in-Some.at (c.in-Ok.ensures.exact, c.in-Ok-network.ensures.judged) word _ refl),
+      c.fault_at.ensures.place)
+
+pub returns-in-Some-clause-refused : goal.returns-in-Some-clause-refused
+returns-in-Some-clause-refused c = λ fault is.
+    let items = c.args.script.now.items in
+    let word = sym (c.in-Some.ensures ∙ ap first_word c.as_slice.ensures) in
+    same_fault c.args.bytes.now items c.fault_at.result fault
+    (c.in-Some.at,
+      subst (λ (code : Code). FaultOf items (record { code = code; at = c.in-Some.at })) (sym c.fault_at.ensures.code) (rules_said items c.in-Ok.flat c.in-Some.at (c.in-Ok.ensures.exact, c.in-Ok-network.ensures.judged) word _ refl),
+      c.fault_at.ensures.place) is
+
+pub returns-clause-only : goal.returns-clause-only
+returns-clause-only c = λ net means.
+    let items = c.args.script.now.items in
+    let word = sym (c.in-None.ensures ∙ ap first_word c.as_slice.ensures) in
+    one_meaning items c.in-Ok-network.net net (c.in-Ok.flat, (c.in-Ok.ensures.exact, c.in-Ok-network.ensures.judged), c.in-Ok-network.ensures.network, word) means
+
+pub returns-clause-refused : goal.returns-clause-refused
+returns-clause-refused c = λ fault is.
+    let items = c.args.script.now.items in
+    let word = sym (c.in-None.ensures ∙ ap first_word c.as_slice.ensures) in
+    network_refuses c.args.bytes.now items c.in-Ok-network.net fault (c.in-Ok.flat, (c.in-Ok.ensures.exact, c.in-Ok-network.ensures.judged), c.in-Ok-network.ensures.network, word) is
