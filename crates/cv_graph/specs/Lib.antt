@@ -7,3 +7,4 @@ pub mod Ports
 pub mod Tables
 pub mod Values
 pub mod Ways
+pub mod Readers

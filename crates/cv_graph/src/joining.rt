@@ -46,7 +46,7 @@ pub fn join_feeds(alloc: Global, parts: &Parts, table: &Places) -> Result<Joined
 }
 
 /// The map with one more join, where there is none to its target.
-fn indexed(
+pub(crate) fn indexed(
     feeders: BTreeMap<Port, usize>,
     wire: Wire,
     number: usize,
