@@ -11,6 +11,8 @@ mod agreeing;
 #[cfg(test)]
 mod commands;
 #[cfg(test)]
+mod compiling;
+#[cfg(test)]
 mod networks;
 #[cfg(test)]
 mod reading;
@@ -226,7 +228,7 @@ mod tests {
     }
 
     /// Scripts of no meaning, with the place and the code of each.
-    const REFUSED: [(&str, &str); 45] = [
+    const REFUSED: [(&str, &str); 53] = [
         // No lexemes.
         ("a : std.Constant(data=\"x", "1:23 OpenText"),
         (
@@ -252,68 +254,97 @@ mod tests {
             "a : std.Constant(data=[[[[[[[[[[[[[[[[[1]]]]]]]]]]]]]]]]])",
             "1:39 TooDeep",
         ),
-        // Other kinds, arguments and ports than those that are built.
-        ("a : std.Nope()", "1:1 Unbuilt"),
-        ("a : Nope()", "1:1 Unbuilt"),
-        ("a : std.Constant()", "1:1 Unbuilt"),
-        ("a : std.Constant(n=1)", "1:1 Unbuilt"),
-        ("a : std.Constant(data=1, n=-2)", "1:1 Unbuilt"),
-        ("a : std.Constant(data=1, n=\"1\")", "1:1 Unbuilt"),
-        ("a : std.Constant(data=1, data=1)", "1:1 Unbuilt"),
-        ("a : std.Constant(data=1, x=1)", "1:1 Unbuilt"),
-        ("a : std.Constant(data=0.5)", "1:1 Unbuilt"),
-        ("a : std.Constant(data=x)", "1:1 Unbuilt"),
-        ("a : std.Identity(dump=1)a.token>a.token", "1:1 Unbuilt"),
+        // Components, names and arguments.
+        ("a : Nope()", "1:1 NoComponent"),
         (
-            "a : std.Identity(dump=true, dump=true)a.token>a.token",
-            "1:1 Unbuilt",
+            "component A() -> out { x : B() x.out > .out }\ncomponent B() -> out { y : A() y.out > .out }\na : A()",
+            "2:24 Recursion",
         ),
-        ("a : std.Identity(data=1)a.token>a.token", "1:1 Unbuilt"),
-        (
-            "a:std.Constant(data=1)b:io.Print(x=1)a.token>b.token",
-            "1:1 Unbuilt",
-        ),
+        ("component A(p) -> {}\na : A()", "2:1 ArgCount"),
+        ("a : std.Constant(data=x)", "1:18 NoArg"),
+        ("b:io.Print() X > b.token", "1:14 NoArg"),
         (
             "a : std.Constant(data=1)\na : std.Constant(data=1)",
-            "1:1 Unbuilt",
+            "2:1 DoubleName",
         ),
-        ("a : std.Constant(data=1)\na.nope > a.nope", "1:1 Unbuilt"),
+        ("a : std.Constant(data=1, data=1)", "1:26 DoubleName"),
+        (
+            "a : std.Identity(dump=true, dump=true)a.token>a.token",
+            "1:29 DoubleName",
+        ),
+        // Kinds and their arguments.
+        ("a : std.Nope()", "1:1 NoKind"),
+        ("src : std.Constant(data=0.5)", "1:20 Fraction"),
+        ("src : std.CountTimer(sleep=0.0005)", "1:22 BadArg"),
+        ("a : std.Constant()", "1:1 BadArg"),
+        ("a : std.Constant(n=1)", "1:1 BadArg"),
+        ("a : std.Constant(data=1, n=-2)", "1:26 BadArg"),
+        ("a : std.Constant(data=1, n=\"1\")", "1:26 BadArg"),
+        ("a : std.Constant(data=1, x=1)", "1:26 BadArg"),
+        ("a : std.Identity(dump=1)a.token>a.token", "1:18 BadArg"),
+        ("a : std.Identity(data=1)a.token>a.token", "1:18 BadArg"),
+        (
+            "a:std.Constant(data=1)b:io.Print(x=1)a.token>b.token",
+            "1:34 BadArg",
+        ),
+        ("a : math.Compare(op=\"<>\")\n1 > a.a\n2 > a.b", "1:18 BadArg"),
+        // Ports.
+        ("a : std.Constant(data=1)\na.nope > a.nope", "2:1 NoPort"),
         (
             "a:std.Constant(data=1)b:io.Print()a.nope>b.token",
-            "1:1 Unbuilt",
+            "1:35 NoPort",
         ),
         (
             "a:std.Constant(data=1)b:io.Print()a.token>b.nope",
-            "1:1 Unbuilt",
+            "1:43 NoPort",
         ),
         (
             "a:std.Constant(data=1)b:io.Print()c.token>b.token",
-            "1:1 Unbuilt",
+            "1:35 NoPort",
         ),
-        // Inports that are joined not once, and an outport that is joined twice.
-        ("a : io.Print()", "1:1 Unbuilt"),
+        ("b:io.Print() .x > b.token", "1:14 NoPort"),
+        // Inports that are joined not once.
+        (
+            "a : std.Constant(data=1)\nb : io.Print()\na.token > b.token\na.token > b.token",
+            "4:11 FedTwice",
+        ),
         (
             "a:std.Constant(data=1)c:std.Constant(data=1)b:io.Print()a.token>b.token c.token>b.token",
-            "1:1 Unbuilt",
+            "1:81 FedTwice",
         ),
+        ("a : io.Print()", "1:1 Unfed"),
+        // A way of own ports that goes round comes from no actor.
+        (
+            "component C() p -> p { .p > .p }\nc : C()\nb : io.Print()\nc.p > c.p, b.token",
+            "3:1 Unfed",
+        ),
+        (
+            "src : std.Sequence(data=[1])\nbat : flow.Batch(n=5)\nsrc.token > bat.token",
+            "2:1 BatchOverQueue",
+        ),
+        // Of two faults the first in order counts: of actors in order the argument, and then the kind; then of joins the
+        // port, though it is the second feed; then inports.
+        ("a : std.Constant(n=-2)\nb : std.Nope()", "1:18 BadArg"),
+        ("a.x > b.y\na : std.Nope()", "2:1 NoKind"),
+        (
+            "a : std.Constant(data=1)\nb : io.Print()\na.nope > b.token\na.token > b.token",
+            "3:1 NoPort",
+        ),
+        ("c : io.Print()\na : std.Counter()\na.nope > c.token", "3:1 NoPort"),
+        // Rules, where nothing else is wrong.
+        ("rule r : node_attr_match(index=[\"a\", {}])", "1:1 Unbuilt"),
+        ("apply a : r", "1:1 Unbuilt"),
+        ("a : io.Print()\napply a : r", "1:1 Unfed"),
+        ("voidport > a.token apply a : r a : io.Print()", "1:20 Unbuilt"),
+        // One node does not run several readers of one outport yet.
         (
             "a:std.Constant(data=1)b:io.Print()c:io.Print()a.token>b.token a.token>c.token",
             "1:1 Unbuilt",
         ),
-        // Joins and statements of other forms.
         (
             "a:std.Constant(data=1)b:io.Print()c:io.Print()a.token>b.token, c.token",
             "1:1 Unbuilt",
         ),
-        ("b:io.Print() 5 > b.token", "1:1 Unbuilt"),
-        ("b:io.Print() X > b.token", "1:1 Unbuilt"),
-        ("b:io.Print() voidport > b.token", "1:1 Unbuilt"),
-        ("a:std.Constant(data=1) a.token > voidport", "1:1 Unbuilt"),
-        ("b:io.Print() .x > b.token", "1:1 Unbuilt"),
-        ("component A() -> {}", "1:1 Unbuilt"),
-        ("define D = 1", "1:1 Unbuilt"),
-        ("rule r : node_attr_match(index=[\"a\", {}])", "1:1 Unbuilt"),
-        ("apply a : r", "1:1 Unbuilt"),
     ];
 
     /// A name of 65 letters.

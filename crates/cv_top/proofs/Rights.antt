@@ -1,26 +1,17 @@
 -- A record of one node of a wired network keeps its streams, and the text is that of its firings.
-use Rattle.std.proofs.Common.{◌≡◌, ℕ, List, [], ◌∷◌, ◌++◌, map, take, codes, Some, Result, Ok, Err, IsTrue, refl, ap, sym, ◌∙◌, subst, append-nil, string_bytes}
+use Rattle.std.proofs.Common.{◌≡◌, ℕ, List, [], ◌∷◌, ◌++◌, map, take, codes, Some, refl, ap, sym, ◌∙◌, subst, append-nil}
 use Rattle.cv_kinds.specs.Net.{Net}
 use Rattle.cv_kinds.specs.Wired.{IsWired, HasOneReader}
 use Rattle.cv_node.specs.declared.event.Entry.{Entry}
 use Rattle.cv_node.specs.declared.event.Record.{Record}
 use Rattle.cv_node.specs.declared.run.Stop.{Stop}
-use Rattle.cv_node.specs.declared.run.Stop.TheVariants as stop
 use Rattle.cv_node.specs.NodeRow.{NodeState, opening, replay}
 use Rattle.cv_node.specs.Recorded.{step_of, first_entry, IsOneNodeRun}
 use Rattle.cv_merge.specs.Streams.{firing_of, firings, deploys, StreamsInOrder}
 use Rattle.cv_merge.proofs.Runs.{every_run}
 use Rattle.cv_solo.specs.OneRuntime.{solo}
-use Rattle.cv_top.specs.declared.end.Answer.{Answer}
-use Rattle.cv_top.specs.declared.end.Refusal.{Refusal}
-use Rattle.cv_top.specs.declared.end.Refusal.TheVariants as refusal
-use Rattle.cv_top.specs.declared.running.Runner.{Runner}
-use Rattle.cv_top.specs.declared.running.Runner.TheVariants.{Node, Rounds}
-use Rattle.cv_top.specs.Answers.{IsSuccess, IsRunAnswer, IsRunDecided, IsDecided}
-use Rattle.cv_top.specs.Devices.{Reading, Gave}
 use Rattle.cv_top.specs.Printed.{firings_of, IsTextWhereDefined}
-use Rattle.cv_top.specs.Ran.{IsRightRun, command_for}
-use Rattle.cv_top.specs.Words.{command_of, reads_script}
+use Rattle.cv_top.specs.Ran.{IsRightRun}
 
 -- the firings of the steps are those of the entries
 firings_recorded : (entries : List Entry) → firings_of (map step_of entries) ≡ firings entries
@@ -48,24 +39,3 @@ right_run net most s m text wired single run printed =
       defined = defined;
       printed = printed whole.1 defined;
     }
-
--- a run of the script that the source gave is what the words and the source are answered with
-run_success : (words : List (List ℕ)) (r : Reading) (runner : Runner) (bytes : List ℕ) (most : ℕ) (answer : Answer) → command_of words ≡ Some (command_for runner most) → Gave r bytes → IsRunAnswer runner bytes most answer
-    → IsSuccess words r answer.end answer.merged (string_bytes answer.text)
-run_success words r runner bytes most answer asked gave (stop.Spent, ends, run) =
-    subst (λ e. IsSuccess words r e answer.merged (string_bytes answer.text)) (sym ends) (bytes, gave, record { runner = runner; most = most; asked = asked; run = run })
-run_success words r runner bytes most answer asked gave (stop.Quiescent, ends, run) =
-    subst (λ e. IsSuccess words r e answer.merged (string_bytes answer.text)) (sym ends) (bytes, gave, record { runner = runner; most = most; asked = asked; run = run })
-
-reads_by : (runner : Runner) (most : ℕ) → IsTrue (reads_script (command_for runner most))
-reads_by Node most = refl
-reads_by Rounds most = refl
-
--- and so is its refusal
-pub run_answered : (words : List (List ℕ)) (r : Reading) (runner : Runner) (most : ℕ) (x : Result Answer Refusal) → command_of words ≡ Some (command_for runner most) → IsRunDecided runner most r x → IsDecided words r x
-run_answered words r runner most (Ok answer) asked (bytes, gave, ran) = run_success words r runner bytes most answer asked gave ran
-run_answered words r runner most (Err (refusal.Script line col c)) asked is = ((command_for runner most, asked, reads_by runner most), is)
-run_answered words r runner most (Err refusal.ReadFault) asked is = ((command_for runner most, asked, reads_by runner most), is.0, is.1)
-run_answered words r runner most (Err refusal.TooLong) asked is = ((command_for runner most, asked, reads_by runner most), is.0, is.1)
-run_answered words r runner most (Err refusal.OutOfMemory) asked is = ((command_for runner most, asked), is.0, is.1)
-run_answered words r runner most (Err refusal.Usage) asked is = absurd is

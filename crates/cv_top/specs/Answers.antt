@@ -2,19 +2,17 @@
 use Rattle.std.specs.Prelude.{◌≡◌, ◌⊎◌, ℕ, List, Some, Result, Ok, Err, string_bytes}
 use Rattle.cv_io.specs.Faults.{Rose}
 use Rattle.cv_node.specs.declared.event.Record.{Record}
-use Rattle.cv_node.specs.declared.run.Stop.{Stop}
-use Rattle.cv_node.specs.declared.run.Stop.TheVariants as stop
 use Rattle.cv_top.specs.declared.end.Answer.{Answer}
-use Rattle.cv_top.specs.declared.running.Runner.{Runner}
 use Rattle.cv_top.specs.declared.end.End.{End}
 use Rattle.cv_top.specs.declared.end.End.TheVariants as end
 use Rattle.cv_top.specs.declared.end.Refusal.{Refusal}
 use Rattle.cv_top.specs.declared.end.Refusal.TheVariants as refusal
-use Rattle.cv_top.specs.declared.words.Command.TheVariants.{Gen}
-use Rattle.cv_top.specs.Causes.{GaveFault, IsCause, end_of, line_of, script_limit}
+use Rattle.cv_top.specs.declared.words.Command.TheVariants.{Script, Gen}
+use Rattle.cv_top.specs.declared.words.Task.{Task}
+use Rattle.cv_top.specs.Causes.{GaveRefused, IsCause, end_of, line_of, script_limit}
 use Rattle.cv_top.specs.Devices.{Reading, Writing, Gave, GaveAtMost, GaveOneMore, IsSteady, IsUnread, TookAll, TookFront}
 use Rattle.cv_top.specs.Generated.{generated_script}
-use Rattle.cv_top.specs.Ran.{IsEmptyRecord, IsRunOfScript, RunFrom, end_at}
+use Rattle.cv_top.specs.Ran.{IsDoneFor, IsEmptyRecord}
 use Rattle.cv_top.specs.Words.{command_of}
 
 -- the status with which the program ends
@@ -30,19 +28,25 @@ status_of end.OutOfMemory = 6
 status_of end.TooLong = 8
 
 -- the script of `gen`, for which nothing was read
-pub record IsGenerated (words : List (List ℕ)) (r : Reading) (m : Record) (text : List ℕ) : Type 0 where
+pub record IsGenerated (words : List (List ℕ)) (r : Reading) (e : End) (m : Record) (text : List ℕ) : Type 0 where
   pub number : ℕ
   pub asked : command_of words ≡ Some (Gen number)
   pub unread : IsUnread r
+  pub ends : e ≡ end.Done
   pub empty : IsEmptyRecord m
   pub is : text ≡ generated_script number
 
+-- what the words ask to do with the script that the source gave
+pub record IsScriptDone (words : List (List ℕ)) (r : Reading) (e : End) (m : Record) (text : List ℕ) : Type 0 where
+  pub task : Task
+  pub asked : command_of words ≡ Some (Script task)
+  pub bytes : List ℕ
+  pub gave : Gave r bytes
+  pub done : IsDoneFor task bytes e m text
+
 -- what a command answers at status 0, with its record and its text
 abbrev pub IsSuccess : List (List ℕ) → Reading → End → Record → List ℕ → Type 0
-IsSuccess words r end.Spent m text = RunFrom words r stop.Spent m text
-IsSuccess words r end.Quiescent m text = RunFrom words r stop.Quiescent m text
-IsSuccess words r end.Done m text = IsGenerated words r m text
-IsSuccess words r _ m text = ⊥
+IsSuccess words r e m text = IsScriptDone words r e m text ⊎ IsGenerated words r e m text
 
 -- a refusal that has its cause, with its line and no record
 pub record IsRefusal (words : List (List ℕ)) (r : Reading) (e : End) (m : Record) (text : List ℕ) : Type 0 where
@@ -68,23 +72,19 @@ pub record IsAnswered (words : List (List ℕ)) (r : Reading) (w : Writing) (e :
   pub answer : IsAnswer words r stated merged text
   pub told : IsTold w stated merged text e m
 
--- a run of the script that the bytes spell, with its end, its record and its text
-abbrev pub IsRunAnswer : Runner → List ℕ → ℕ → Answer → Type 0
-IsRunAnswer runner bytes most answer = (s : Stop) × (answer.end ≡ end_at s) × IsRunOfScript runner bytes most s answer.merged (string_bytes answer.text)
-
 -- what is to be told: the success of a command, or a refusal that has its cause
 abbrev pub IsDecided : List (List ℕ) → Reading → Result Answer Refusal → Type 0
 IsDecided words r (Ok answer) = IsSuccess words r answer.end answer.merged (string_bytes answer.text)
 IsDecided words r (Err refusal) = IsCause words r refusal
 
--- the same of a run of the script that the source gives, with so many firings at most
-abbrev pub IsRunDecided : Runner → ℕ → Reading → Result Answer Refusal → Type 0
-IsRunDecided runner most r (Ok answer) = (bytes : List ℕ) × Gave r bytes × IsRunAnswer runner bytes most answer
-IsRunDecided runner most r (Err refusal.ReadFault) = GaveAtMost script_limit r × Rose r.before r.now
-IsRunDecided runner most r (Err refusal.TooLong) = GaveOneMore script_limit r × IsSteady r
-IsRunDecided runner most r (Err refusal.OutOfMemory) = GaveAtMost script_limit r × IsSteady r
-IsRunDecided runner most r (Err (refusal.Script line col c)) = GaveFault r line col c
-IsRunDecided runner most r (Err refusal.Usage) = ⊥
+-- the same of a task for the script that the source gives
+abbrev pub IsTaskDecided : Task → Reading → Result Answer Refusal → Type 0
+IsTaskDecided t r (Ok answer) = (bytes : List ℕ) × Gave r bytes × IsDoneFor t bytes answer.end answer.merged (string_bytes answer.text)
+IsTaskDecided t r (Err refusal.ReadFault) = GaveAtMost script_limit r × Rose r.before r.now
+IsTaskDecided t r (Err refusal.TooLong) = GaveOneMore script_limit r × IsSteady r
+IsTaskDecided t r (Err refusal.OutOfMemory) = GaveAtMost script_limit r × IsSteady r
+IsTaskDecided t r (Err (refusal.Script line col c)) = GaveRefused t r (refusal.Script line col c)
+IsTaskDecided t r (Err refusal.Usage) = ⊥
 
 -- the same of the script of so many chains
 abbrev pub IsGenAnswer : ℕ → Result Answer Refusal → Type 0

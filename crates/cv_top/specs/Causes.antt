@@ -1,5 +1,5 @@
 -- The refusals: what each says of the words and the source, how it ends the call, and its line.
-use Rattle.std.specs.Prelude.{◌≡◌, ◌⊎◌, ℕ, ◌≤◌, ◌^◌, List, [], ◌∷◌, ◌++◌, length, Some, None, Result, Ok, Err, IsTrue, codes, Vec}
+use Rattle.std.specs.Prelude.{◌≡◌, ◌⊎◌, ℕ, ◌≤◌, ◌^◌, List, [], ◌∷◌, ◌++◌, length, Some, None, Result, Ok, Err, codes, Vec}
 use Rattle.std.specs.declared.option.Option.{Option}
 use Rattle.std.specs.declared.alloc.Global.{Global}
 use Rattle.std.specs.Fmt.{decimal}
@@ -8,14 +8,20 @@ use Rattle.cv_deploy.specs.declared.fault.Code.{Code}
 use Rattle.cv_deploy.specs.declared.fault.Code.TheVariants as code
 use Rattle.cv_deploy.specs.declared.fault.NoNetwork.{NoNetwork}
 use Rattle.cv_deploy.specs.declared.fault.NoNetwork.TheVariants as none
-use Rattle.cv_deploy.specs.Faults.{HasFault, word_of}
+use Rattle.cv_deploy.specs.declared.fault.Fault.{Fault}
+use Rattle.cv_deploy.specs.Faults.{HasFault, Means, first_fault, word_of}
+use Rattle.cv_kinds.specs.Net.{Net}
+use Rattle.cv_kinds.specs.Wired.{HasOneReader}
 use Rattle.cv_top.specs.declared.end.End.{End}
 use Rattle.cv_top.specs.declared.end.End.TheVariants as end
 use Rattle.cv_top.specs.declared.end.Refusal.{Refusal}
 use Rattle.cv_top.specs.declared.end.Refusal.TheVariants as refusal
 use Rattle.cv_top.specs.declared.words.Command.{Command}
+use Rattle.cv_top.specs.declared.words.Command.TheVariants.{Script}
+use Rattle.cv_top.specs.declared.words.Task.{Task}
+use Rattle.cv_top.specs.declared.words.Task.TheVariants as task
 use Rattle.cv_top.specs.Devices.{Reading, Gave, GaveAtMost, GaveOneMore, IsSteady, IsUnread}
-use Rattle.cv_top.specs.Words.{command_of, reads_script}
+use Rattle.cv_top.specs.Words.{command_of}
 
 -- a script has at most so many bytes: one mebibyte
 abbrev pub script_limit : ℕ
@@ -29,18 +35,45 @@ IsAsking words = (c : Command) × (command_of words ≡ Some c)
 
 -- the words ask for a command that reads a script
 abbrev pub IsReading : List (List ℕ) → Type 0
-IsReading words = (c : Command) × (command_of words ≡ Some c) × IsTrue (reads_script c)
+IsReading words = (t : Task) × (command_of words ≡ Some (Script t))
 
--- the source gave a script that has this fault at this place
-abbrev pub GaveFault : Reading → ℕ → ℕ → Code → Type 0
-GaveFault r line col c = (bytes : List ℕ) × Gave r bytes × (length bytes ≤ script_limit) × HasFault bytes (record { line = line; col = col; code = c })
+-- one node does not run a network yet of which an outport has several readers
+abbrev pub IsBuilt : Task → Net → Type 0
+IsBuilt (task.Run most) net = HasOneReader net
+IsBuilt (task.Solo most) net = Unit {0}
+IsBuilt task.Compile net = Unit {0}
 
--- Usage: the words are not of the form, and nothing was read. Script: the source gave a script with that fault.
+-- a refusal of a network that the task is not built for, or want of memory
+abbrev pub IsUnbuiltFor : Task → Net → Refusal → Type 0
+IsUnbuiltFor t net (refusal.Script line col c) = (IsBuilt t net → ⊥) × (record { line = line; col = col; code = c } ≡ first_fault code.Unbuilt)
+IsUnbuiltFor t net refusal.OutOfMemory = Unit {0}
+IsUnbuiltFor t net refusal.Usage = ⊥
+IsUnbuiltFor t net refusal.ReadFault = ⊥
+IsUnbuiltFor t net refusal.TooLong = ⊥
+
+-- the bytes mean a network that the task is not built for, which is told at their first byte
+abbrev pub IsUnbuilt : Task → List ℕ → Fault → Type 0
+IsUnbuilt t bytes fault = (net : Net) × Means bytes net × (IsBuilt t net → ⊥) × (fault ≡ first_fault code.Unbuilt)
+
+-- a refusal of a script's bytes: a fault that they have, a network that the task is not built for, or want of memory
+abbrev pub IsRefusalOf : Task → List ℕ → Refusal → Type 0
+IsRefusalOf t bytes (refusal.Script line col c) =
+    HasFault bytes (record { line = line; col = col; code = c }) ⊎ IsUnbuilt t bytes (record { line = line; col = col; code = c })
+IsRefusalOf t bytes refusal.OutOfMemory = Unit {0}
+IsRefusalOf t bytes refusal.Usage = ⊥
+IsRefusalOf t bytes refusal.ReadFault = ⊥
+IsRefusalOf t bytes refusal.TooLong = ⊥
+
+-- the source gave a script that is refused so
+abbrev pub GaveRefused : Task → Reading → Refusal → Type 0
+GaveRefused t r x = (bytes : List ℕ) × Gave r bytes × (length bytes ≤ script_limit) × IsRefusalOf t bytes x
+
+-- Usage: the words are not of the form, and nothing was read. Script: the source gave a script that is refused with that fault.
 -- ReadFault: the source's count of faults rose. TooLong: the source gave one byte more than the limit. Want of memory may
 -- come in place of any other answer that takes memory, and the source did not fail then.
 abbrev pub IsCause : List (List ℕ) → Reading → Refusal → Type 0
 IsCause words r refusal.Usage = (command_of words ≡ None) × IsUnread r
-IsCause words r (refusal.Script line col c) = IsReading words × GaveFault r line col c
+IsCause words r (refusal.Script line col c) = (t : Task) × (command_of words ≡ Some (Script t)) × GaveRefused t r (refusal.Script line col c)
 IsCause words r refusal.ReadFault = IsReading words × GaveAtMost script_limit r × Rose r.before r.now
 IsCause words r refusal.TooLong = IsReading words × GaveOneMore script_limit r × IsSteady r
 IsCause words r refusal.OutOfMemory = IsAsking words × GaveAtMost script_limit r × IsSteady r
@@ -87,14 +120,6 @@ line_of refusal.TooLong = with_feed (codes "long")
 
 -- ---- scripts
 
--- a refusal of a script's bytes: a fault that they have, or want of memory
-abbrev pub IsRefusalOf : List ℕ → Refusal → Type 0
-IsRefusalOf bytes (refusal.Script line col c) = HasFault bytes (record { line = line; col = col; code = c })
-IsRefusalOf bytes refusal.OutOfMemory = Unit {0}
-IsRefusalOf bytes refusal.Usage = ⊥
-IsRefusalOf bytes refusal.ReadFault = ⊥
-IsRefusalOf bytes refusal.TooLong = ⊥
-
 -- the refusal for bytes that stand for no network
 abbrev pub refusal_of : NoNetwork → Refusal
 refusal_of (none.Script fault) = refusal.Script fault.line fault.col fault.code
@@ -105,10 +130,6 @@ refusal_of none.OutOfMemory = refusal.OutOfMemory
 -- the source tells the bytes that it will give, which are no more than its limit
 abbrev pub IsToldWithin : Option (List ℕ) → List ℕ → Type 0
 IsToldWithin left bytes = (left ≡ Some bytes) × (length bytes ≤ script_limit)
-
--- the words ask for a command that reads a script, and the source tells one within its limit
-abbrev pub IsAsked : List (List ℕ) → Option (List ℕ) → List ℕ → Type 0
-IsAsked words left bytes = IsReading words × IsToldWithin left bytes
 
 -- the ends that may come for words and a script that are right: those of the command, want of memory, and faults of the
 -- source or the sink
@@ -123,18 +144,18 @@ DoneOrFailed end.Usage = ⊥
 DoneOrFailed end.TooLong = ⊥
 DoneOrFailed (end.Script line col c) = ⊥
 
--- the ends that may come for words that are right and a script that has no meaning yet: Unbuilt at its first byte, want of
--- memory, and faults of the source or the sink
-abbrev pub UnbuiltOrFailed : End → Type 0
-UnbuiltOrFailed (end.Script line col c) = (line ≡ 1) × (col ≡ 1) × (c ≡ code.Unbuilt)
-UnbuiltOrFailed end.OutOfMemory = Unit {0}
-UnbuiltOrFailed end.ReadFault = Unit {0}
-UnbuiltOrFailed end.WriteFault = Unit {0}
-UnbuiltOrFailed end.Spent = ⊥
-UnbuiltOrFailed end.Quiescent = ⊥
-UnbuiltOrFailed end.Done = ⊥
-UnbuiltOrFailed end.Usage = ⊥
-UnbuiltOrFailed end.TooLong = ⊥
+-- the ends that may come for words that are right and a script with a fault: that fault, want of memory, and faults of the
+-- source or the sink
+abbrev pub FaultOrFailed : Fault → End → Type 0
+FaultOrFailed fault (end.Script line col c) = record { line = line; col = col; code = c } ≡ fault
+FaultOrFailed fault end.OutOfMemory = Unit {0}
+FaultOrFailed fault end.ReadFault = Unit {0}
+FaultOrFailed fault end.WriteFault = Unit {0}
+FaultOrFailed fault end.Spent = ⊥
+FaultOrFailed fault end.Quiescent = ⊥
+FaultOrFailed fault end.Done = ⊥
+FaultOrFailed fault end.Usage = ⊥
+FaultOrFailed fault end.TooLong = ⊥
 
 -- a refusal that ends the call so
 abbrev pub RefusedBy : {X : Type 0} → Result X Refusal → (End → Type 0) → Type 0

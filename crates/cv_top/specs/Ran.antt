@@ -1,7 +1,9 @@
--- What a run leaves: its record, and its text.
+-- What a command leaves: its record, and its text.
 use Rattle.std.specs.Prelude.{◌≡◌, ℕ, ◌<◌, List, [], ◌++◌, length, Some}
 use Rattle.cv_deploy.specs.Faults.{Means}
 use Rattle.cv_kinds.specs.Net.{Net}
+use Rattle.cv_network.specs.Written.{network_token}
+use Rattle.cv_token.specs.Spelling.{spelling}
 use Rattle.cv_kinds.specs.Wired.{IsWired}
 use Rattle.cv_node.specs.declared.event.Entry.{Entry}
 use Rattle.cv_node.specs.declared.event.Record.{Record}
@@ -13,13 +15,10 @@ use Rattle.cv_solo.specs.OneRuntime.{Runtime, solo}
 use Rattle.cv_solo.specs.PlainNetwork.{IsIdle, IsPlainRun}
 use Rattle.cv_top.specs.declared.end.End.{End}
 use Rattle.cv_top.specs.declared.end.End.TheVariants as end
+use Rattle.cv_top.specs.declared.words.Task.{Task}
+use Rattle.cv_top.specs.declared.words.Task.TheVariants as task
+use Rattle.cv_top.specs.Causes.{with_feed}
 use Rattle.cv_top.specs.Printed.{firings_of, IsTextOf}
-use Rattle.cv_top.specs.declared.words.Command.TheVariants.{Run, Solo}
-use Rattle.cv_top.specs.declared.words.Command.{Command}
-use Rattle.cv_top.specs.declared.running.Runner.{Runner}
-use Rattle.cv_top.specs.declared.running.Runner.TheVariants.{Node, Rounds}
-use Rattle.cv_top.specs.Devices.{Reading, Gave}
-use Rattle.cv_top.specs.Words.{command_of}
 
 -- no entry, and no node
 abbrev pub IsEmptyRecord : Record → Type 0
@@ -53,35 +52,20 @@ pub record IsRightRounds (net : Net) (most : ℕ) (s : Stop) (m : Record) (text 
   pub printed : IsTextOf net firings runtime s text
   pub empty : IsEmptyRecord m
 
--- a right run by either machine
-abbrev pub IsRightRunBy : Runner → Net → ℕ → Stop → Record → List ℕ → Type 0
-IsRightRunBy Node net most s m text = IsRightRun net most s m text
-IsRightRunBy Rounds net most s m text = IsRightRounds net most s m text
-
--- the command that asks for a run by that machine
-abbrev pub command_for : Runner → ℕ → Command
-command_for Node most = Run most
-command_for Rounds most = Solo most
-
--- a right run of the network that the bytes of a script mean, with so many firings at most
-pub record IsRunOfScript (runner : Runner) (bytes : List ℕ) (most : ℕ) (s : Stop) (m : Record) (text : List ℕ) : Type 0 where
-  pub net : Net
-  pub means : Means bytes net
-  pub wired : IsWired net
-  pub right : IsRightRunBy runner net most s m text
-
--- the same by the machine and with as many firings at most as the words ask for
-pub record IsRunOf (words : List (List ℕ)) (bytes : List ℕ) (s : Stop) (m : Record) (text : List ℕ) : Type 0 where
-  pub runner : Runner
-  pub most : ℕ
-  pub asked : command_of words ≡ Some (command_for runner most)
-  pub run : IsRunOfScript runner bytes most s m text
-
--- a right run of the script that the source gave
-abbrev pub RunFrom : List (List ℕ) → Reading → Stop → Record → List ℕ → Type 0
-RunFrom words r s m text = (bytes : List ℕ) × Gave r bytes × IsRunOf words bytes s m text
-
 -- the end of a run that stopped so
 abbrev pub end_at : Stop → End
 end_at stop.Spent = end.Spent
 end_at stop.Quiescent = end.Quiescent
+
+-- what is done with a network, as the task asks: how it ends, its record, and its text
+abbrev pub IsRight : Task → Net → End → Record → List ℕ → Type 0
+IsRight (task.Run most) net e m text = (s : Stop) × (e ≡ end_at s) × IsRightRun net most s m text
+IsRight (task.Solo most) net e m text = (s : Stop) × (e ≡ end_at s) × IsRightRounds net most s m text
+IsRight task.Compile net e m text = (e ≡ end.Done) × IsEmptyRecord m × (text ≡ with_feed (spelling (network_token net)))
+
+-- the same with the network that the bytes of a script mean
+pub record IsDoneFor (t : Task) (bytes : List ℕ) (e : End) (m : Record) (text : List ℕ) : Type 0 where
+  pub net : Net
+  pub means : Means bytes net
+  pub wired : IsWired net
+  pub right : IsRight t net e m text

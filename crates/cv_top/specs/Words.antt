@@ -4,7 +4,8 @@ use Rattle.std.specs.List.{list_all}
 use Rattle.std.specs.Option.{option_map}
 use Rattle.std.specs.Str.{bytes_eq}
 use Rattle.cv_top.specs.declared.words.Command.{Command}
-use Rattle.cv_top.specs.declared.words.Command.TheVariants.{Run, Solo, Gen}
+use Rattle.cv_top.specs.declared.words.Command.TheVariants.{Script, Gen}
+use Rattle.cv_top.specs.declared.words.Task.TheVariants.{Run, Solo, Compile}
 
 abbrev pub is_digit : ℕ → Bool
 is_digit b = nat_le 48 b && nat_le b 57
@@ -48,17 +49,17 @@ chains_item (word ∷ []) = chains_word word
 chains_item (mark ∷ word ∷ []) = if bytes_eq mark (codes "--") then chains_word word else None
 chains_item _ = None
 
--- what the words ask for: `run` or `solo`, with or without `--firings N`, or `gen N`; None where the words are of another form
+-- the command, where no words stand behind it
+abbrev pub alone : List (List ℕ) → Command → Option Command
+alone [] command = Some command
+alone _ command = None
+
+-- what the words ask for: `run` or `solo`, with or without `--firings N`, `compile`, or `gen N`; None where the words are of another form
 abbrev pub command_of : List (List ℕ) → Option Command
 command_of [] = None
 command_of (command ∷ rest) =
-    if bytes_eq command (codes "run") then option_map Run (firings_option rest)
-    else if bytes_eq command (codes "solo") then option_map Solo (firings_option rest)
+    if bytes_eq command (codes "run") then option_map (λ n. Script (Run n)) (firings_option rest)
+    else if bytes_eq command (codes "solo") then option_map (λ n. Script (Solo n)) (firings_option rest)
+    else if bytes_eq command (codes "compile") then alone rest (Script Compile)
     else if bytes_eq command (codes "gen") then option_map Gen (chains_item rest)
     else None
-
--- whether a command reads a script from the source
-abbrev pub reads_script : Command → Bool
-reads_script (Run most) = true
-reads_script (Solo most) = true
-reads_script (Gen number) = false

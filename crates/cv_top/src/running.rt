@@ -1,49 +1,94 @@
-//! A run of a network on one node: its record, and what its prints have printed.
+//! What is done with the network of a script: a run on one node or in rounds, or its text.
 
-ghost use Rattle.std.specs.Prelude.{◌≡◌, ◌≤◌, ◌^◌, ℕ, List, ◌++◌, length, Some, None, string_bytes, IfOk, IfErr, OnOk};
-ghost use Rattle.cv_deploy.specs.Faults.{Means, SpellsScript};
-ghost use Rattle.cv_deploy.specs.Meaning.{network_of};
+ghost use Rattle.std.specs.Prelude.{◌≡◌, ◌≤◌, ◌^◌, ℕ, List, ◌++◌, length, Some, string_bytes, IfOk, IfErr, OnOk};
+ghost use Rattle.cv_deploy.specs.declared.fault.Code.TheVariants as code;
+ghost use Rattle.cv_deploy.specs.declared.fault.Fault.{Fault};
+ghost use Rattle.cv_deploy.specs.Faults.{HasScriptFault, Means, SpellsScript, first_fault};
 ghost use Rattle.cv_kinds.specs.Net.{Net};
-ghost use Rattle.cv_syntax.specs.declared.tree.Script.{Script};
+ghost use Rattle.cv_kinds.specs.Wired.{HasOneReader, IsWired};
+ghost use Rattle.cv_network.specs.Written.{network_token};
 ghost use Rattle.cv_node.specs.declared.run.Stop.{Stop};
-ghost use Rattle.cv_top.specs.Causes.{IsRefusalOf, DoneOrFailed, UnbuiltOrFailed, UnlessRefused, RefusedBy, refusal_of};
 ghost use Rattle.cv_solo.specs.OneRuntime.{Runtime, opening, solo, solo_from};
 ghost use Rattle.cv_solo.specs.PlainNetwork.{IsPlainRun};
+ghost use Rattle.cv_syntax.specs.declared.tree.Script.{Script};
+ghost use Rattle.cv_token.specs.Spelling.{spelling};
+ghost use Rattle.cv_top.specs.declared.end.End.TheVariants as end;
+ghost use Rattle.cv_top.specs.declared.words.Task.TheVariants as tasks;
+ghost use Rattle.cv_top.specs.Causes.{IsBuilt, IsRefusalOf, IsUnbuiltFor, DoneOrFailed, FaultOrFailed, UnlessRefused, RefusedBy, refusal_of, with_feed};
 ghost use Rattle.cv_top.specs.Printed.{firings_of, last_lines, end_word, IsTextWhereDefined};
 ghost use Rattle.cv_merge.specs.Streams.{firing_of};
-ghost use Rattle.cv_kinds.specs.Wired.{HasOneReader, IsWired};
-ghost use Rattle.cv_top.specs.Ran.{IsRightRun, IsRightRounds, IsRightRunBy, RoundsEnd, end_at};
-ghost use Rattle.cv_top.specs.Answers.{IsRunAnswer};
+ghost use Rattle.cv_top.specs.Ran.{IsDoneFor, IsEmptyRecord, IsRight, IsRightRun, IsRightRounds, RoundsEnd, end_at};
 
 use crate::end::{Answer, End, Refusal, empty_record};
-use cv_deploy::{NoNetwork, compile};
+use crate::words::Task;
+use cv_deploy::{Code, NoNetwork, compile};
+use cv_graph::has_one_reader;
 use cv_kinds::Network;
+use cv_network::network_text;
 use cv_node::{Event, Record, Step, Stop, run_alone};
 use cv_solo::{Solo, SoloFault};
 use cv_token::OutOfMemory;
 use std::alloc::{AllocError, Global};
 
-/// What runs a script.
-#[derive(Debug, Clone, Copy, PartialEq, Eq)]
-pub enum Runner {
-    /// One node, with queues at its ports and a journal.
-    Node,
-    /// The one runtime, which goes in rounds.
-    Rounds,
-}
-
-/// Runs the script that the bytes spell, with so many firings at most.
-pub fn run_script(alloc: Global, bytes: &[u8], runner: Runner, most: u32) -> Result<Answer, Refusal>
+/// Does what the task asks with the network that the bytes of a script mean.
+pub fn do_task(alloc: Global, bytes: &[u8], task: Task) -> Result<Answer, Refusal>
     requires { length bytes.now ≤ 2 ^ 31 }
-    ensures ran { IfOk result (λ answer. IsRunAnswer runner bytes.now most answer) }
-    ensures cause { IfErr result (IsRefusalOf bytes.now) }
-    ensures complete { (net : Net) → Means bytes.now net → UnlessRefused result DoneOrFailed }
-    ensures unbuilt { (script : Script) → SpellsScript bytes.now script → network_of script.items ≡ None → RefusedBy result UnbuiltOrFailed }
+    ensures done { IfOk result (λ answer. IsDoneFor task bytes.now answer.end answer.merged (string_bytes answer.text)) }
+    ensures cause { IfErr result (IsRefusalOf task bytes.now) }
+    ensures complete { (net : Net) → Means bytes.now net → IsBuilt task net → UnlessRefused result DoneOrFailed }
+    ensures unbuilt { (net : Net) → Means bytes.now net → (IsBuilt task net → ⊥) → RefusedBy result (FaultOrFailed (first_fault code.Unbuilt)) }
+    ensures faulty { (script : Script) (fault : Fault) → SpellsScript bytes.now script → HasScriptFault bytes.now script.items fault → RefusedBy result (FaultOrFailed fault) }
 {
     match compile(alloc, bytes) {
-        Ok(net) => run_network(alloc, net, runner, most).map_err(|_| Refusal::OutOfMemory),
+        Ok(net) => do_with(alloc, net, task),
         Err(none) => Err(refusal_of(none)),
     }
+}
+
+/// Does what the task asks with a network.
+fn do_with(alloc: Global, net: Network, task: Task) -> Result<Answer, Refusal>
+    requires { IsWired net }
+    ensures done { IfOk result (λ answer. IsRight task net answer.end answer.merged (string_bytes answer.text)) }
+    ensures built { IfOk result (λ answer. IsBuilt task net) }
+    ensures cause { IfErr result (IsUnbuiltFor task net) }
+{
+    match task {
+        Task::Run { firings } => run_if_built(alloc, net, firings),
+        Task::Solo { firings } => run_in_rounds(alloc, &net, firings).map_err(|_| Refusal::OutOfMemory),
+        Task::Compile => shown(alloc, &net).map_err(|_| Refusal::OutOfMemory),
+    }
+}
+
+/// Runs a network on one node, where none of its outports has several readers.
+fn run_if_built(alloc: Global, net: Network, most: u32) -> Result<Answer, Refusal>
+    requires { IsWired net }
+    ensures ran { IfOk result (λ answer. (stop : Stop) × (answer.end ≡ end_at stop) × IsRightRun net most stop answer.merged (string_bytes answer.text)) }
+    ensures built { IfOk result (λ answer. HasOneReader net) }
+    ensures cause { IfErr result (IsUnbuiltFor (tasks.Run most) net) }
+{
+    match has_one_reader(alloc, &net) {
+        Ok(true) => run_on_node(alloc, net, most).map_err(|_| Refusal::OutOfMemory),
+        Ok(false) => Err(Refusal::Script {
+            line: 1,
+            col: 1,
+            code: Code::Unbuilt,
+        }),
+        Err(_) => Err(Refusal::OutOfMemory),
+    }
+}
+
+/// The text of a network.
+fn shown(alloc: Global, net: &Network) -> Result<Answer, OutOfMemory>
+    ensures { IfOk result (λ answer. (answer.end ≡ end.Done) × IsEmptyRecord answer.merged × (string_bytes answer.text ≡ with_feed (spelling (network_token net.now)))) }
+{
+    let json = network_text(alloc, net)?;
+    let mut text = String::from_str(alloc, json.as_str())?;
+    text.push('\n')?;
+    Ok(Answer {
+        end: End::Done,
+        merged: empty_record(alloc),
+        text,
+    })
 }
 
 /// The refusal for bytes that stand for no network.
@@ -57,23 +102,6 @@ fn refusal_of(none: NoNetwork) -> Refusal
             code: fault.code,
         },
         NoNetwork::OutOfMemory => Refusal::OutOfMemory,
-    }
-}
-
-/// Runs a network, with so many firings at most.
-fn run_network(
-    alloc: Global,
-    net: Network,
-    runner: Runner,
-    most: u32,
-) -> Result<Answer, OutOfMemory>
-    requires wired { IsWired net }
-    requires one_reader { HasOneReader net }
-    ensures { IfOk result (λ answer. (stop : Stop) × (answer.end ≡ end_at stop) × IsRightRunBy runner net most stop answer.merged (string_bytes answer.text)) }
-{
-    match runner {
-        Runner::Node => run_on_node(alloc, net, most),
-        Runner::Rounds => run_in_rounds(alloc, &net, most),
     }
 }
 

@@ -1,19 +1,22 @@
 //! `calvin`: the call that the program makes.
 
-ghost use Rattle.std.specs.Prelude.{◌≡◌, ◌⊎◌, ℕ, List, map, string_bytes, vec_len, None, IfErr};
-ghost use Rattle.cv_deploy.specs.Faults.{Means, SpellsScript};
-ghost use Rattle.cv_deploy.specs.Meaning.{network_of};
+ghost use Rattle.std.specs.Prelude.{◌≡◌, ◌⊎◌, ℕ, List, map, string_bytes, vec_len, Some, IfErr};
+ghost use Rattle.cv_deploy.specs.declared.fault.Code.TheVariants as code;
+ghost use Rattle.cv_deploy.specs.declared.fault.Fault.{Fault};
+ghost use Rattle.cv_deploy.specs.Faults.{HasScriptFault, Means, SpellsScript, first_fault};
 ghost use Rattle.cv_kinds.specs.Net.{Net};
 ghost use Rattle.cv_syntax.specs.declared.tree.Script.{Script};
-ghost use Rattle.cv_top.specs.Answers.{status_of, IsAnswered, IsDecided, IsRunDecided, IsGenAnswer};
-ghost use Rattle.cv_top.specs.Causes.{IsAsked, IsToldWithin, IsScriptRead, DoneOrFailed, UnbuiltOrFailed, UnlessRefused, RefusedBy};
+ghost use Rattle.cv_top.specs.declared.words.Command.TheVariants.{Script as AsksScript};
+ghost use Rattle.cv_top.specs.declared.words.Task.{Task};
+ghost use Rattle.cv_top.specs.Answers.{status_of, IsAnswered, IsDecided, IsTaskDecided, IsGenAnswer};
+ghost use Rattle.cv_top.specs.Causes.{IsBuilt, IsToldWithin, IsScriptRead, DoneOrFailed, FaultOrFailed, UnlessRefused, RefusedBy};
 ghost use Rattle.cv_top.specs.Words.{command_of};
 
 use crate::end::{Answer, End, Outcome, Refusal, empty_record};
 use crate::generating::generated_script;
-use crate::running::{Runner, run_script};
+use crate::running::do_task;
 use crate::told::{tell, tell_refusal};
-use crate::words::{Command, read_command};
+use crate::words::{Command, Task, read_command};
 use cv_io::{Gate, ReadAll, Sink, Source, read_all};
 use std::alloc::Global;
 use std::thread::Threads;
@@ -40,10 +43,12 @@ pub fn calvin<R: Threads + Sync, S: Source, K: Sink, G: Gate>(
     ensures status { result.status ≡ status_of result.end }
     ensures cuts { vec_len result.cuts ≡ 0 }
 
-    // Words of the form and bytes that mean a network end in a run, and bytes that spell a script of another form in
-    // Unbuilt at 1:1, unless memory runs out or the source or the sink fails.
-    ensures complete { (bytes : List ℕ) (net : Net) → IsAsked (map string_bytes words.now) (S.left source.old) bytes → Means bytes net → DoneOrFailed result.end }
-    ensures unbuilt { (bytes : List ℕ) (script : Script) → IsAsked (map string_bytes words.now) (S.left source.old) bytes → SpellsScript bytes script → network_of script.items ≡ None → UnbuiltOrFailed result.end }
+    // Words that ask for a command and bytes that mean a network end as the command does, unless memory runs out or the
+    // source or the sink fails; but a run of a network of which an outport has several readers ends in Unbuilt at 1:1. Bytes
+    // that spell a script with a fault of its components, kinds, arguments or joins, or with a rule, end in that fault.
+    ensures complete { (task : Task) (bytes : List ℕ) (net : Net) → command_of (map string_bytes words.now) ≡ Some (AsksScript task) → IsToldWithin (S.left source.old) bytes → Means bytes net → IsBuilt task net → DoneOrFailed result.end }
+    ensures unbuilt { (task : Task) (bytes : List ℕ) (net : Net) → command_of (map string_bytes words.now) ≡ Some (AsksScript task) → IsToldWithin (S.left source.old) bytes → Means bytes net → (IsBuilt task net → ⊥) → FaultOrFailed (first_fault code.Unbuilt) result.end }
+    ensures faulty { (task : Task) (bytes : List ℕ) (script : Script) (fault : Fault) → command_of (map string_bytes words.now) ≡ Some (AsksScript task) → IsToldWithin (S.left source.old) bytes → SpellsScript bytes script → HasScriptFault bytes script.items fault → FaultOrFailed fault result.end }
 {
     match answer(alloc, words, source) {
         Ok(answer) => {
@@ -57,30 +62,26 @@ pub fn calvin<R: Threads + Sync, S: Source, K: Sink, G: Gate>(
 /// What the words and the source are answered with.
 fn answer<S: Source>(alloc: Global, words: &[String], source: &mut S) -> Result<Answer, Refusal>
     ensures decided { IsDecided (map string_bytes words.now) (record { left = S.left source.old; rest = S.left source.new; before = S.faults source.old; now = S.faults source.new }) result }
-    ensures complete { (bytes : List ℕ) (net : Net) → IsAsked (map string_bytes words.now) (S.left source.old) bytes → Means bytes net → UnlessRefused result DoneOrFailed }
-    ensures unbuilt { (bytes : List ℕ) (script : Script) → IsAsked (map string_bytes words.now) (S.left source.old) bytes → SpellsScript bytes script → network_of script.items ≡ None → RefusedBy result UnbuiltOrFailed }
+    ensures complete { (task : Task) (bytes : List ℕ) (net : Net) → command_of (map string_bytes words.now) ≡ Some (AsksScript task) → IsToldWithin (S.left source.old) bytes → Means bytes net → IsBuilt task net → UnlessRefused result DoneOrFailed }
+    ensures unbuilt { (task : Task) (bytes : List ℕ) (net : Net) → command_of (map string_bytes words.now) ≡ Some (AsksScript task) → IsToldWithin (S.left source.old) bytes → Means bytes net → (IsBuilt task net → ⊥) → RefusedBy result (FaultOrFailed (first_fault code.Unbuilt)) }
+    ensures faulty { (task : Task) (bytes : List ℕ) (script : Script) (fault : Fault) → command_of (map string_bytes words.now) ≡ Some (AsksScript task) → IsToldWithin (S.left source.old) bytes → SpellsScript bytes script → HasScriptFault bytes script.items fault → RefusedBy result (FaultOrFailed fault) }
 {
     match read_command(words) {
-        Some(Command::Run { firings }) => run_source(alloc, source, Runner::Node, firings),
-        Some(Command::Solo { firings }) => run_source(alloc, source, Runner::Rounds, firings),
+        Some(Command::Script(task)) => do_source(alloc, source, task),
         Some(Command::Gen { number }) => generate(alloc, number),
         None => Err(Refusal::Usage),
     }
 }
 
-/// Runs the script that the source gives, with so many firings at most.
-fn run_source<S: Source>(
-    alloc: Global,
-    source: &mut S,
-    runner: Runner,
-    most: u32,
-) -> Result<Answer, Refusal>
-    ensures decided { IsRunDecided runner most (record { left = S.left source.old; rest = S.left source.new; before = S.faults source.old; now = S.faults source.new }) result }
-    ensures complete { (bytes : List ℕ) (net : Net) → IsToldWithin (S.left source.old) bytes → Means bytes net → UnlessRefused result DoneOrFailed }
-    ensures unbuilt { (bytes : List ℕ) (script : Script) → IsToldWithin (S.left source.old) bytes → SpellsScript bytes script → network_of script.items ≡ None → RefusedBy result UnbuiltOrFailed }
+/// Does what the task asks with the script that the source gives.
+fn do_source<S: Source>(alloc: Global, source: &mut S, task: Task) -> Result<Answer, Refusal>
+    ensures decided { IsTaskDecided task (record { left = S.left source.old; rest = S.left source.new; before = S.faults source.old; now = S.faults source.new }) result }
+    ensures complete { (bytes : List ℕ) (net : Net) → IsToldWithin (S.left source.old) bytes → Means bytes net → IsBuilt task net → UnlessRefused result DoneOrFailed }
+    ensures unbuilt { (bytes : List ℕ) (net : Net) → IsToldWithin (S.left source.old) bytes → Means bytes net → (IsBuilt task net → ⊥) → RefusedBy result (FaultOrFailed (first_fault code.Unbuilt)) }
+    ensures faulty { (bytes : List ℕ) (script : Script) (fault : Fault) → IsToldWithin (S.left source.old) bytes → SpellsScript bytes script → HasScriptFault bytes script.items fault → RefusedBy result (FaultOrFailed fault) }
 {
     let bytes = read_script(alloc, source)?;
-    run_script(alloc, bytes.as_slice(), runner, most)
+    do_task(alloc, bytes.as_slice(), task)
 }
 
 /// Reads a script to the source's end.

@@ -1,7 +1,7 @@
 //! The words of the command line, read by hand.
 
 ghost use Rattle.std.specs.Prelude.{◌≡◌, ◌<◌, ◌≤◌, ◌^◌, length, map, string_bytes, true};
-ghost use Rattle.cv_top.specs.Words.{command_of, firings_option, firings_word, chains_item, chains_word, is_number, is_digit, number_of};
+ghost use Rattle.cv_top.specs.Words.{command_of, alone, firings_option, firings_word, chains_item, chains_word, is_number, is_digit, number_of};
 ghost use Rattle.std.specs.List.{list_all};
 
 /// How many firings a run makes at most where the words do not say.
@@ -13,18 +13,27 @@ pub const MOST_FIRINGS: u32 = 100_000;
 /// The most chains that `gen` prints.
 pub const MOST_CHAINS: u32 = 50;
 
-/// What the words ask for.
+/// What is done with the network of a script.
 #[derive(Debug, Clone, Copy, PartialEq, Eq)]
-pub enum Command {
-    /// To run the script with so many firings at most, and to print its streams.
+pub enum Task {
+    /// To run it on one node with so many firings at most, and to print its streams.
     Run { firings: u32 },
     /// The same by the one runtime, which goes in rounds.
     Solo { firings: u32 },
+    /// To print it.
+    Compile,
+}
+
+/// What the words ask for.
+#[derive(Debug, Clone, Copy, PartialEq, Eq)]
+pub enum Command {
+    /// To read a script, and to do this with its network.
+    Script(Task),
     /// To print a script of so many chains.
     Gen { number: u32 },
 }
 
-/// What the words ask for: `run` or `solo`, with or without `--firings N`, or `gen N`; None exactly where they are of another form.
+/// What the words ask for: `run` or `solo`, with or without `--firings N`, `compile`, or `gen N`; None exactly where they are of another form.
 pub fn read_command(words: &[String]) -> Option<Command>
     ensures { result ≡ command_of (map string_bytes words.now) }
 {
@@ -33,15 +42,27 @@ pub fn read_command(words: &[String]) -> Option<Command>
     };
     if command.as_str() == "run" {
         let firings = read_firings_option(rest)?;
-        Some(Command::Run { firings })
+        Some(Command::Script(Task::Run { firings }))
     } else if command.as_str() == "solo" {
         let firings = read_firings_option(rest)?;
-        Some(Command::Solo { firings })
+        Some(Command::Script(Task::Solo { firings }))
+    } else if command.as_str() == "compile" {
+        alone(rest, Command::Script(Task::Compile))
     } else if command.as_str() == "gen" {
         let number = read_chains_item(rest)?;
         Some(Command::Gen { number })
     } else {
         None
+    }
+}
+
+/// The command, where no words stand behind it.
+fn alone(words: &[String], command: Command) -> Option<Command>
+    ensures { result ≡ alone (map string_bytes words.now) command }
+{
+    match words {
+        [] => Some(command),
+        _ => None,
     }
 }
 

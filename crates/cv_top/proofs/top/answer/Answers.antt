@@ -1,7 +1,24 @@
+use Rattle.std.proofs.Common.{sym, subst}
+use Rattle.cv_deploy.specs.declared.fault.Code.TheVariants as code
+use Rattle.cv_deploy.specs.Faults.{first_fault}
+use Rattle.cv_kinds.specs.Net.{Net}
+use Rattle.cv_top.specs.declared.words.Task.{Task}
+use Rattle.cv_top.specs.Causes.{IsBuilt}
+use Rattle.cv_top.proofs.Refusals.{one_task, task_answered}
 use Rattle.cv_top.proofs.top.answer.Goals as goal
 
-pub returns-in-Some-Run-clause-complete : goal.returns-in-Some-Run-clause-complete
-returns-in-Some-Run-clause-complete g c = λ bytes net asked means. c.run_source.ensures.complete bytes net asked.1 means
+pub returns-in-Some-Script-clause-decided : goal.returns-in-Some-Script-clause-decided
+returns-in-Some-Script-clause-decided g c = task_answered _ _ c.in-Some-Script.task c.do_source.result (sym c.read_command.ensures) c.do_source.ensures.decided
 
-pub returns-in-Some-Solo-clause-complete : goal.returns-in-Some-Solo-clause-complete
-returns-in-Some-Solo-clause-complete g c = λ bytes net asked means. c.run_source-in-Some-Solo.ensures.complete bytes net asked.1 means
+pub returns-in-Some-Script-clause-complete : goal.returns-in-Some-Script-clause-complete
+returns-in-Some-Script-clause-complete g c = λ task bytes net asked told means built.
+    let same = one_task _ task c.in-Some-Script.task asked (sym c.read_command.ensures) in
+    c.do_source.ensures.complete bytes net told means (subst (λ (t : Task). IsBuilt t net) same built)
+
+pub returns-in-Some-Script-clause-unbuilt : goal.returns-in-Some-Script-clause-unbuilt
+returns-in-Some-Script-clause-unbuilt g c = λ task bytes net asked told means not_built.
+    let same = one_task _ task c.in-Some-Script.task asked (sym c.read_command.ensures) in
+    c.do_source.ensures.unbuilt bytes net told means (λ built. not_built (subst (λ (t : Task). IsBuilt t net) (sym same) built))
+
+pub returns-in-Some-Script-clause-faulty : goal.returns-in-Some-Script-clause-faulty
+returns-in-Some-Script-clause-faulty g c = λ task bytes script fault asked told spells has. c.do_source.ensures.faulty bytes script fault told spells has

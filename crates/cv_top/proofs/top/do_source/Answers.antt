@@ -1,0 +1,25 @@
+use Rattle.std.proofs.Common.{ℕ, List, sym, ◌∙◌, subst}
+use Rattle.cv_deploy.specs.Faults.{Means, SpellsScript, HasScriptFault}
+use Rattle.cv_top.proofs.Refusals.{read_whole, task_decided}
+use Rattle.cv_top.proofs.top.do_source.Goals as goal
+
+pub returns-clause-decided : goal.returns-clause-decided
+returns-clause-decided g c =
+    let read = c.in_ok-bytes.ensures in
+    task_decided c.args.task _ c.in_ok-bytes.bytes.items c.do_task.result read.0 read.1 (rw c.as_slice.ensures.value at c.do_task.ensures.done) (rw c.as_slice.ensures.value at c.do_task.ensures.cause)
+
+pub returns-clause-complete : goal.returns-clause-complete
+returns-clause-complete g c = λ bytes net told means.
+    let read = c.in_ok-bytes.ensures in
+    c.do_task.ensures.complete net (subst (λ (bs : List ℕ). Means bs net) (read_whole _ _ c.in_ok-bytes.bytes.items bytes told.0 read.0.given read.0.ended ∙ sym c.as_slice.ensures.value) means)
+
+pub returns-clause-unbuilt : goal.returns-clause-unbuilt
+returns-clause-unbuilt g c = λ bytes net told means.
+    let read = c.in_ok-bytes.ensures in
+    c.do_task.ensures.unbuilt net (subst (λ (bs : List ℕ). Means bs net) (read_whole _ _ c.in_ok-bytes.bytes.items bytes told.0 read.0.given read.0.ended ∙ sym c.as_slice.ensures.value) means)
+
+pub returns-clause-faulty : goal.returns-clause-faulty
+returns-clause-faulty g c = λ bytes script fault told spells has.
+    let read = c.in_ok-bytes.ensures in
+    let same = read_whole _ _ c.in_ok-bytes.bytes.items bytes told.0 read.0.given read.0.ended ∙ sym c.as_slice.ensures.value in
+    c.do_task.ensures.faulty script fault (subst (λ (bs : List ℕ). SpellsScript bs script) same spells) (subst (λ (bs : List ℕ). HasScriptFault bs script.items fault) same has)
