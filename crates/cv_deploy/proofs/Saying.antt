@@ -18,7 +18,7 @@ use Rattle.cv_deploy.specs.declared.fault.Code.TheVariants as code
 use Rattle.cv_deploy.specs.declared.fault.Fault.{Fault}
 use Rattle.cv_deploy.specs.declared.fault.NoNetwork.{NoNetwork}
 use Rattle.cv_deploy.specs.declared.fault.NoNetwork.TheVariants as refusal
-use Rattle.cv_deploy.specs.Faults.{StandsAt, Gives, Refuses, SaysAt, Said, said, expand_said, graph_said, FaultOf, of_walk, of_parts, of_rules, HasScriptFault, SaidTo, IsScriptFault}
+use Rattle.cv_deploy.specs.Faults.{StandsAt, Gives, Refuses, Said, said, expand_said, graph_said, FaultOf, of_walk, of_parts, of_rules, HasScriptFault, SaidTo, IsScriptFault}
 use Rattle.cv_deploy.specs.Meaning.{first_word, IsWhole, StandsFor}
 
 some_same : {X : Type 0} (x y : X) → Some x ≡ Some y → x ≡ y

@@ -1,21 +1,18 @@
 -- The network of parts is wired.
-use Rattle.std.proofs.Common.{◌≡◌, ℕ, zero, suc, ◌<◌, ◌⊎◌, inl, inr, List, [], ◌∷◌, length, slice_get, Option, Some, None, refl, sym, ◌∙◌, ap, subst, arith}
+use Rattle.std.proofs.Common.{◌≡◌, ℕ, zero, suc, ◌<◌, List, [], ◌∷◌, length, slice_get, Option, Some, refl, sym, ◌∙◌, ap, subst, arith}
 use Rattle.std.proofs.lemmas.Option.{slice_get_within}
 use Rattle.cv_expand.specs.declared.flat.Actor.{Actor}
 use Rattle.cv_expand.specs.declared.flat.Parts.{Parts}
 use Rattle.cv_expand.specs.declared.path.Step.{Step}
-use Rattle.cv_kinds.specs.declared.kind.Kind.{Kind}
 use Rattle.cv_kinds.specs.declared.network.ActorSpec.{ActorSpec}
 use Rattle.cv_kinds.specs.declared.network.Join.{Join}
-use Rattle.cv_kinds.specs.KindRow.{row_of}
-use Rattle.cv_kinds.specs.Names.{kind_named}
 use Rattle.cv_kinds.specs.Net.{Net}
 use Rattle.cv_kinds.specs.Wired.{HasOutport, HasInport, IsWired}
 use Rattle.cv_kinds.proofs.Lines.{inports_are, outports_are}
 use Rattle.cv_graph.specs.declared.port.Side.{Side}
 use Rattle.cv_graph.specs.declared.port.Side.TheVariants as side
 use Rattle.cv_graph.specs.Meaning.{IsSpec, AreSpecs, AllAbove, Rising, IsNetwork}
-use Rattle.cv_graph.specs.Ports.{End, Place, kind_place, actor_place, actor_places, names_on, IsActorPort}
+use Rattle.cv_graph.specs.Ports.{End, Place, kind_place, actor_place, names_on, IsActorPort}
 use Rattle.cv_graph.proofs.Lists.{some_same, among_at, map_at}
 use Rattle.cv_graph.proofs.Single.{above_all}
 

@@ -30,19 +30,21 @@ returns-in-Err-network-clause-refused c = λ fault is.
 pub returns-in-Some-clause-fault : goal.returns-in-Some-clause-fault
 returns-in-Some-clause-fault c =
     let items = c.args.script.now.items in
-    let word = sym (c.in-Some.ensures ∙ ap first_word c.as_slice.ensures) in
-    (c.in-Some.at,
+    let word = sym (c.in-Some.ensures ∙ ap first_word c.as_slice.ensures) in (
+      c.in-Some.at,
       subst (λ (code : Code). FaultOf items (record { code = code; at = c.in-Some.at })) (sym c.fault_at.ensures.code) (rules_said items c.in-Ok.flat c.in-Some.at (c.in-Ok.ensures.exact, c.in-Ok-network.ensures.judged) word _ refl),
-      c.fault_at.ensures.place)
+      c.fault_at.ensures.place,
+    )
 
 pub returns-in-Some-clause-refused : goal.returns-in-Some-clause-refused
 returns-in-Some-clause-refused c = λ fault is.
     let items = c.args.script.now.items in
     let word = sym (c.in-Some.ensures ∙ ap first_word c.as_slice.ensures) in
-    same_fault c.args.bytes.now items c.fault_at.result fault
-    (c.in-Some.at,
+    same_fault c.args.bytes.now items c.fault_at.result fault (
+      c.in-Some.at,
       subst (λ (code : Code). FaultOf items (record { code = code; at = c.in-Some.at })) (sym c.fault_at.ensures.code) (rules_said items c.in-Ok.flat c.in-Some.at (c.in-Ok.ensures.exact, c.in-Ok-network.ensures.judged) word _ refl),
-      c.fault_at.ensures.place) is
+      c.fault_at.ensures.place,
+    ) is
 
 pub returns-clause-only : goal.returns-clause-only
 returns-clause-only c = λ net means.
