@@ -1,0 +1,6 @@
+//! Networks as text.
+#![tactic(auto)]
+
+pub mod writing;
+
+pub use writing::network_text;

@@ -1,0 +1,115 @@
+//! Networks as text.
+
+ghost use Rattle.std.specs.Prelude.{◌≡◌, map, IfOk};
+ghost use Rattle.cv_token.specs.Spelling.{spelling};
+ghost use Rattle.cv_network.specs.Written.{network_token, actor_token, connection_token, port_token, outport_token, inport_token};
+
+use cv_kinds::{ActorSpec, Join, Network, name};
+use cv_token::{Items, OutOfMemory, Pair, Pairs, Text, Token, copy_items, text};
+use std::alloc::Global;
+
+/// The text of a network, `{"actors":[[PATH,KIND,ARGUMENTS,null],..],"connections":[[FROM,OUTPORT,TO,INPORT],..]}`: actors
+/// by their places, and ports by their names.
+pub fn network_text(alloc: Global, net: &Network) -> Result<Text, OutOfMemory>
+    ensures { IfOk result (λ text. text ≡ spelling (network_token net.now)) }
+{
+    let actors = Token::List(actor_tokens(alloc, net.actors())?);
+    let connections = Token::List(connection_tokens(alloc, net.actors(), net.connections())?);
+    let mut members = Pairs::new(alloc);
+    members.push(Pair {
+        key: named(alloc, "actors")?,
+        value: actors,
+    })?;
+    members.push(Pair {
+        key: named(alloc, "connections")?,
+        value: connections,
+    })?;
+    text(alloc, &Token::Dict(members))
+}
+
+/// The actors, each as a list.
+fn actor_tokens(alloc: Global, actors: &[ActorSpec]) -> Result<Items, OutOfMemory>
+    ensures { IfOk result (λ tokens. tokens ≡ map actor_token actors.now) }
+{
+    let mut tokens = Items::new(alloc);
+    for actor in actors {
+        tokens.push(actor_token(alloc, actor)?)?;
+    }
+    Ok(tokens)
+}
+
+/// An actor: its path, its kind, its arguments, and null for its rule.
+fn actor_token(alloc: Global, actor: &ActorSpec) -> Result<Token, OutOfMemory>
+    ensures { IfOk result (λ token. token ≡ actor_token actor.now) }
+{
+    let mut parts = Items::new(alloc);
+    parts.push(Token::Text(actor.path.copy(alloc)?))?;
+    parts.push(Token::Text(named(alloc, name(actor.kind))?))?;
+    parts.push(Token::List(copy_items(alloc, &actor.args)?))?;
+    parts.push(Token::Null)?;
+    Ok(Token::List(parts))
+}
+
+/// The connections, each as a list.
+fn connection_tokens(
+    alloc: Global,
+    actors: &[ActorSpec],
+    connections: &[Join],
+) -> Result<Items, OutOfMemory>
+    ensures { IfOk result (λ tokens. tokens ≡ map (connection_token actors.now) connections.now) }
+{
+    let mut tokens = Items::new(alloc);
+    for connection in connections {
+        tokens.push(connection_token(alloc, actors, *connection)?)?;
+    }
+    Ok(tokens)
+}
+
+/// A connection: its producer's place and the outport's name, its consumer's place and the inport's name.
+fn connection_token(alloc: Global, actors: &[ActorSpec], join: Join) -> Result<Token, OutOfMemory>
+    ensures { IfOk result (λ token. token ≡ connection_token actors.now join) }
+{
+    let mut parts = Items::new(alloc);
+    parts.push(Token::Int(i64::from(join.from)))?;
+    parts.push(outport_token(alloc, actors, join)?)?;
+    parts.push(Token::Int(i64::from(join.to)))?;
+    parts.push(inport_token(alloc, actors, join)?)?;
+    Ok(Token::List(parts))
+}
+
+/// The name of the outport from which a connection comes.
+fn outport_token(alloc: Global, actors: &[ActorSpec], join: Join) -> Result<Token, OutOfMemory>
+    ensures { IfOk result (λ token. token ≡ outport_token actors.now join) }
+{
+    match actors.get(join.from as usize) {
+        Some(actor) => port_token(alloc, actor.kind.line().outports, join.out),
+        None => Ok(Token::Null),
+    }
+}
+
+/// The name of the inport to which a connection goes.
+fn inport_token(alloc: Global, actors: &[ActorSpec], join: Join) -> Result<Token, OutOfMemory>
+    ensures { IfOk result (λ token. token ≡ inport_token actors.now join) }
+{
+    match actors.get(join.to as usize) {
+        Some(actor) => port_token(alloc, actor.kind.line().inports, join.inp),
+        None => Ok(Token::Null),
+    }
+}
+
+/// The name of the port of that number.
+fn port_token(alloc: Global, names: &[&str], number: u8) -> Result<Token, OutOfMemory>
+    ensures { IfOk result (λ token. token ≡ port_token (map (λ text. text.now) names.now) number) }
+{
+    match names.get(number as usize) {
+        Some(name) => Ok(Token::Text(named(alloc, name)?)),
+        None => Ok(Token::Null),
+    }
+}
+
+/// A text of its own.
+fn named(alloc: Global, text: &str) -> Result<Text, OutOfMemory>
+    ensures { IfOk result (λ own. own ≡ text.now) }
+{
+    Ok(Text::from_string(String::from_str(alloc, text)?))
+}
