@@ -120,13 +120,13 @@ reading needs port (i ∷ ins) p held e =
     let h = not_short needs port i ins held in
     some_or _ port p (first_unread needs (suc port) ins) e (Fed (p - port))
     (λ is same.
-      let first : 0 ≡ p - port = omega arith in
-      let here : IsSomeAnd i (CanRead (needs port)) = is_fed (needs port) i h.0 (less _ _ is) in
-      subst Fed first (subst (λ (n : ℕ). IsSomeAnd i (CanRead (needs n))) same here))
+    let first : 0 ≡ p - port = omega arith in
+    let here : IsSomeAnd i (CanRead (needs port)) = is_fed (needs port) i h.0 (less _ _ is) in
+    subst Fed first (subst (λ (n : ℕ). IsSomeAnd i (CanRead (needs n))) same here))
     (λ is later.
-      let above = unread_from needs (suc port) ins p later in
-      let next : suc (p - suc port) ≡ p - port = omega arith in
-      subst Fed next (reading needs (suc port) ins p h.1 later))
+    let above = unread_from needs (suc port) ins p later in
+    let next : suc (p - suc port) ≡ p - port = omega arith in
+    subst Fed next (reading needs (suc port) ins p h.1 later))
 
 pub reads : (l : LiveState) (now action port count : ℕ) → look l now action ≡ Reads port count → IsSomeAnd (inlet_at l port) (λ i. count ≤ length i.port.held)
 reads l now action port count e =

@@ -81,7 +81,10 @@ pub(crate) fn take_needed(spec: &ActorSpec, action: u8, ins: &mut [Option<Inlet>
     ensures { ins.new ≡ without_needed (needed (row_of spec.now.kind) spec.now.args action) 0 ins.old }
 {
     for port in 0..ins.len() {
-        take_read(&mut ins[port], spec.kind.needs(&spec.args, action, port as u8));
+        take_read(
+            &mut ins[port],
+            spec.kind.needs(&spec.args, action, port as u8),
+        );
     }
 }
 

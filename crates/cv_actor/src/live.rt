@@ -110,12 +110,7 @@ impl Live {
 
 impl Live {
     /// The actor of that number of a network at the start. The moment and its pause are below 2^62 together.
-    pub fn new(
-        alloc: Global,
-        id: ActorId,
-        net: &Network,
-        now: u64,
-    ) -> Result<Live, OutOfMemory>
+    pub fn new(alloc: Global, id: ActorId, net: &Network, now: u64) -> Result<Live, OutOfMemory>
         requires { IsSomeAnd (slice_get net.now.actors id.actor) (λ spec. first_due spec now < 2 ^ 62) }
         ensures { IfOk result (λ live. IfSome (slice_get net.now.actors id.actor) (IsNew live id net.now now)) }
     {
@@ -190,7 +185,11 @@ impl Live {
             return Sight::Reads(port, self.spec.kind.needs(&self.spec.args, action, port));
         }
         let head = guard_head(self.spec.kind, self.ins());
-        if !self.spec.kind.guard(&self.spec.args, &self.slots, action, head) {
+        if !self
+            .spec
+            .kind
+            .guard(&self.spec.args, &self.slots, action, head)
+        {
             return Sight::Lacks(Need::Guard);
         }
         if let Some(port) = first_crowded(self.spec.kind, action, self.outs()) {
@@ -383,12 +382,7 @@ impl Live {
     }
 
     /// What `capture` would give; nothing changes here.
-    pub fn state(
-        &self,
-        alloc: Global,
-        hints: Hints,
-        now: u64,
-    ) -> Result<ActorState, OutOfMemory>
+    pub fn state(&self, alloc: Global, hints: Hints, now: u64) -> Result<ActorState, OutOfMemory>
         ensures { IfOk result (λ state. state ≡ capture self.now hints now) }
     {
         let live = self.copy(alloc)?;

@@ -76,12 +76,7 @@ pub(crate) fn new_outs(
 }
 
 /// The readers of an outport of the actor, by rising connection.
-fn new_readers(
-    alloc: Global,
-    id: ActorId,
-    joins: &[Join],
-    port: u8,
-) -> Result<Readers, OutOfMemory>
+fn new_readers(alloc: Global, id: ActorId, joins: &[Join], port: u8) -> Result<Readers, OutOfMemory>
     requires { length joins.now ≤ 4096 }
     ensures { IfOk result (λ readers. readers ≡ readers_of id.app 0 joins.now id.actor port) }
 {

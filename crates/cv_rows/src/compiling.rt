@@ -61,7 +61,10 @@ fn networks_have_their_texts(rt: HostRuntime) -> Result<(), Fail> {
         let bytes = Vec::from_slice(alloc, script.as_bytes())?;
         let mut source = MemSource::new(bytes, 100, Vec::new(alloc));
         let mut sink = MemSink::new(alloc, 1000, Vec::new(alloc));
-        assert_eq!(rt; status(&rt, alloc, &["compile"], &mut source, &mut sink)?, 0);
+        assert_eq!(rt;
+            status(&rt, alloc, &["compile"], &mut source, &mut sink)?,
+            0
+        );
         assert_eq!(rt; sink.bytes(), text.as_bytes());
     }
     Ok(())

@@ -287,7 +287,10 @@ mod tests {
             "a:std.Constant(data=1)b:io.Print(x=1)a.token>b.token",
             "1:34 BadArg",
         ),
-        ("a : math.Compare(op=\"<>\")\n1 > a.a\n2 > a.b", "1:18 BadArg"),
+        (
+            "a : math.Compare(op=\"<>\")\n1 > a.a\n2 > a.b",
+            "1:18 BadArg",
+        ),
         // Ports.
         ("a : std.Constant(data=1)\na.nope > a.nope", "2:1 NoPort"),
         (
@@ -330,12 +333,18 @@ mod tests {
             "a : std.Constant(data=1)\nb : io.Print()\na.nope > b.token\na.token > b.token",
             "3:1 NoPort",
         ),
-        ("c : io.Print()\na : std.Counter()\na.nope > c.token", "3:1 NoPort"),
+        (
+            "c : io.Print()\na : std.Counter()\na.nope > c.token",
+            "3:1 NoPort",
+        ),
         // Rules, where nothing else is wrong.
         ("rule r : node_attr_match(index=[\"a\", {}])", "1:1 Unbuilt"),
         ("apply a : r", "1:1 Unbuilt"),
         ("a : io.Print()\napply a : r", "1:1 Unfed"),
-        ("voidport > a.token apply a : r a : io.Print()", "1:20 Unbuilt"),
+        (
+            "voidport > a.token apply a : r a : io.Print()",
+            "1:20 Unbuilt",
+        ),
         // One node does not run several readers of one outport yet.
         (
             "a:std.Constant(data=1)b:io.Print()c:io.Print()a.token>b.token a.token>c.token",

@@ -54,7 +54,9 @@ fn do_with(alloc: Global, net: Network, task: Task) -> Result<Answer, Refusal>
 {
     match task {
         Task::Run { firings } => run_if_built(alloc, net, firings),
-        Task::Solo { firings } => run_in_rounds(alloc, &net, firings).map_err(|_| Refusal::OutOfMemory),
+        Task::Solo { firings } => run_in_rounds(alloc, &net, firings).map_err(
+            |_| Refusal::OutOfMemory,
+        ),
         Task::Compile => shown(alloc, &net).map_err(|_| Refusal::OutOfMemory),
     }
 }

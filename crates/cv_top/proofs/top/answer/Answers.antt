@@ -1,7 +1,4 @@
 use Rattle.std.proofs.Common.{sym, subst}
-use Rattle.cv_deploy.specs.declared.fault.Code.TheVariants as code
-use Rattle.cv_deploy.specs.Faults.{first_fault}
-use Rattle.cv_kinds.specs.Net.{Net}
 use Rattle.cv_top.specs.declared.words.Task.{Task}
 use Rattle.cv_top.specs.Causes.{IsBuilt}
 use Rattle.cv_top.proofs.Refusals.{one_task, task_answered}
