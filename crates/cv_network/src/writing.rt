@@ -2,6 +2,7 @@
 
 ghost use Rattle.std.specs.Prelude.{◌≡◌, map, IfOk};
 ghost use Rattle.cv_token.specs.Spelling.{spelling};
+ghost use Rattle.cv_token.specs.declared.token.Token.TheVariants as tokens;
 ghost use Rattle.cv_network.specs.Written.{network_token, actor_token, connection_token, port_token, outport_token, inport_token};
 
 use cv_kinds::{ActorSpec, Join, Network, name};
@@ -13,18 +14,32 @@ use std::alloc::Global;
 pub fn network_text(alloc: Global, net: &Network) -> Result<Text, OutOfMemory>
     ensures { IfOk result (λ text. text ≡ spelling (network_token net.now)) }
 {
-    let actors = Token::List(actor_tokens(alloc, net.actors())?);
-    let connections = Token::List(connection_tokens(alloc, net.actors(), net.connections())?);
+    text(alloc, &network_token(alloc, net)?)
+}
+
+/// A network as a token.
+fn network_token(alloc: Global, net: &Network) -> Result<Token, OutOfMemory>
+    ensures { IfOk result (λ token. token ≡ network_token net.now) }
+{
+    let actor_list = actor_tokens(alloc, net.actors())?;
+    let first = member(alloc, "actors", actor_list)?;
+    let connection_list = connection_tokens(alloc, net.actors(), net.connections())?;
+    let second = member(alloc, "connections", connection_list)?;
     let mut members = Pairs::new(alloc);
-    members.push(Pair {
-        key: named(alloc, "actors")?,
-        value: actors,
-    })?;
-    members.push(Pair {
-        key: named(alloc, "connections")?,
-        value: connections,
-    })?;
-    text(alloc, &Token::Dict(members))
+    members.push(first)?;
+    members.push(second)?;
+    Ok(Token::Dict(members))
+}
+
+/// A list under a key.
+fn member(alloc: Global, key: &str, list: Items) -> Result<Pair<Token>, OutOfMemory>
+    ensures { IfOk result (λ pair. pair ≡ record { key = key.now; value = tokens.List list }) }
+{
+    let key = named(alloc, key)?;
+    Ok(Pair {
+        key,
+        value: Token::List(list),
+    })
 }
 
 /// The actors, each as a list.
