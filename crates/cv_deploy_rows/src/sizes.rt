@@ -38,8 +38,8 @@ fn long_script(alloc: Global) -> Result<String, Fail> {
 
 /// The joins from each of the components to the next.
 fn push_links(text: &mut String) -> Result<(), Fail> {
-    for place in 1..130 {
-        let before = place - 1;
+    for before in 0..129_u32 {
+        let place = before.saturating_add(1);
         for port in 0..15 {
             write!(text, "p{before}.o{port} > p{place}.i{port}\n")?;
         }
