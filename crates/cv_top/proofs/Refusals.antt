@@ -7,7 +7,7 @@ use Rattle.cv_deploy.specs.declared.fault.Code.TheVariants as code
 use Rattle.cv_deploy.specs.declared.fault.Fault.{Fault}
 use Rattle.cv_deploy.specs.declared.fault.NoNetwork.{NoNetwork}
 use Rattle.cv_deploy.specs.declared.fault.NoNetwork.TheVariants as none
-use Rattle.cv_deploy.specs.Faults.{Gives, Means, Refuses, first_fault}
+use Rattle.cv_deploy.specs.Faults.{Gives, IsCaused, Means, Refuses, first_fault}
 use Rattle.cv_kinds.specs.Net.{Net}
 use Rattle.cv_kinds.specs.Wired.{IsWired}
 use Rattle.cv_node.specs.declared.event.Record.{Record}
@@ -104,6 +104,11 @@ pub memory_alone : (P : End → Type 0) (e : NoNetwork) (net : Net) → P end.Ou
 memory_alone P (none.Script fault) net memory is = absurd is
 memory_alone P none.OutOfMemory net memory is = memory
 
+-- what bytes that mean nothing are refused by is a cause
+pub told_cause : (t : Task) (bytes : List ℕ) (e : NoNetwork) → IsCaused bytes e → IsRefusalOf t bytes (refusal_of e)
+told_cause t bytes (none.Script fault) is = inl is
+told_cause t bytes none.OutOfMemory is = tt
+
 -- bytes with a fault are refused by it, or by want of memory
 pub fault_told : (e : NoNetwork) (fault : Fault) → Refuses {X = Net} (Err e) fault → FaultOrFailed fault (end_of (refusal_of e))
 fault_told (none.Script told) fault is = is
@@ -141,4 +146,5 @@ asks c = Some c
 
 -- words ask for one task
 pub one_task : (words : List (List ℕ)) (t u : Task) → command_of words ≡ Some (Script t) → command_of words ≡ Some (Script u) → t ≡ u
+unfolding asks
 one_task words t u first second = let same : asks (Script t) ≡ Some (Script u) = sym first ∙ second in cc

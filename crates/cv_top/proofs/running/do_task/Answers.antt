@@ -2,8 +2,8 @@ use Rattle.std.proofs.Common.{sym, subst}
 use Rattle.cv_deploy.specs.declared.fault.Code.TheVariants as code
 use Rattle.cv_deploy.specs.Faults.{first_fault}
 use Rattle.cv_kinds.specs.Net.{Net}
-use Rattle.cv_top.specs.Causes.{IsBuilt, DoneOrFailed, FaultOrFailed, end_of}
-use Rattle.cv_top.proofs.Refusals.{built_done, cause_for, done_for, fault_told, memory_alone, unbuilt_told}
+use Rattle.cv_top.specs.Causes.{IsBuilt, IsRefusalOf, DoneOrFailed, FaultOrFailed, end_of}
+use Rattle.cv_top.proofs.Refusals.{built_done, cause_for, done_for, fault_told, memory_alone, told_cause, unbuilt_told}
 use Rattle.cv_top.proofs.running.do_task.Goals as goal
 
 pub returns-in-Ok-clause-done : goal.returns-in-Ok-clause-done
@@ -22,6 +22,9 @@ returns-in-Ok-clause-unbuilt c = λ net means not_built.
 
 pub returns-in-Ok-clause-faulty : goal.returns-in-Ok-clause-faulty
 returns-in-Ok-clause-faulty c = λ script fault spells has. absurd (c.in-Ok.ensures.refused script fault spells has)
+
+pub returns-in-Err-clause-cause : goal.returns-in-Err-clause-cause
+returns-in-Err-clause-cause c = subst (λ x. IsRefusalOf c.args.task c.args.bytes.now x) (sym c.refusal_of.ensures) (told_cause c.args.task c.args.bytes.now _ c.in-Err.ensures.fault)
 
 pub returns-in-Err-clause-complete : goal.returns-in-Err-clause-complete
 returns-in-Err-clause-complete c = λ net means built. subst (λ x. DoneOrFailed (end_of x)) (sym c.refusal_of.ensures) (memory_alone DoneOrFailed _ net tt (c.in-Err.ensures.only net means))
