@@ -145,6 +145,6 @@ asks : Command → Option Command
 asks c = Some c
 
 -- words ask for one task
-pub one_task : (words : List (List ℕ)) (t u : Task) → command_of words ≡ Some (Script t) → command_of words ≡ Some (Script u) → t ≡ u
+pub one_task : (asked : Option Command) (t u : Task) → asked ≡ Some (Script t) → asked ≡ Some (Script u) → t ≡ u
 unfolding asks
-one_task words t u first second = let same : asks (Script t) ≡ Some (Script u) = sym first ∙ second in cc
+one_task asked t u first second = let same : asks (Script t) ≡ Some (Script u) = sym first ∙ second in cc
