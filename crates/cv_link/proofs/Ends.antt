@@ -1,0 +1,15 @@
+-- The ends of one ring, over several calls.
+use Rattle.std.proofs.Common.{sym, ◌∙◌}
+use Rattle.cv_link.specs.Ring.{EndsStay, TxStays, RxStays}
+
+pub ends_stay : EndsStay
+ends_stay tx tx' rx rx' ends t r =
+    (r.ring.0.0 ∙ ends.0 ∙ sym t.ring.0.0, r.ring.0.1 ∙ ends.1 ∙ sym t.ring.0.1, r.ring.0.2 ∙ ends.2 ∙ sym t.ring.0.2, r.ring.0.3 ∙ ends.3 ∙ sym t.ring.0.3)
+
+pub tx_stays : TxStays
+tx_stays a b c s t =
+    record { ring = ((t.ring.0.0 ∙ s.ring.0.0, t.ring.0.1 ∙ s.ring.0.1, t.ring.0.2 ∙ s.ring.0.2, t.ring.0.3 ∙ s.ring.0.3), t.ring.1 ∙ s.ring.1) }
+
+pub rx_stays : RxStays
+rx_stays a b c s t =
+    record { ring = ((t.ring.0.0 ∙ s.ring.0.0, t.ring.0.1 ∙ s.ring.0.1, t.ring.0.2 ∙ s.ring.0.2, t.ring.0.3 ∙ s.ring.0.3), t.ring.1 ∙ s.ring.1) }

@@ -1,0 +1,5 @@
+pub mod Items
+pub mod Plan
+pub mod Planned
+pub mod Ring
+pub mod Runs
