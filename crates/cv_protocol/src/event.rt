@@ -85,8 +85,16 @@ pub struct Entry {
     pub event: Event,
 }
 
-/// The entries of a node, in order.
-pub type Entries = sqlite_items::Items<Entry>;
+/// What a node did.
+#[derive(Drop)]
+pub struct Journal {
+    /// What the node is from the start.
+    pub spec: NodeSpec,
+    /// How many entries before the first one are left out.
+    pub dropped: u64,
+    /// Its entries, in order; there is room for more.
+    pub entries: Vec<Entry>,
+}
 
 /// The frames that a step sent.
 #[derive(Drop)]

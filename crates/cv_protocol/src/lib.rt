@@ -10,7 +10,7 @@ pub mod poll;
 pub mod refusal;
 pub mod state;
 
-pub use event::{Entries, Entry, Event, NodeSpecs, Record, Sent, Step, Steps};
+pub use event::{Entry, Event, Journal, NodeSpecs, Record, Sent, Step, Steps};
 pub use frame::{Body, Frame, Frames, Verdict};
 pub use law::{causes_are_exact, stamps_rise};
 pub use moving::{Application, Frozen, Judged, Location};
