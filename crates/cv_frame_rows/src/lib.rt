@@ -1,0 +1,7 @@
+//! Rows of frames and states as bytes: each text is written out by hand.
+#![tactic(auto)]
+
+#[cfg(test)]
+mod values;
+#[cfg(test)]
+mod writing;
