@@ -1,10 +1,11 @@
 -- One reader behind another.
-use Rattle.std.proofs.Common.{◌≡◌, ℕ, suc, Bool, false, List, ◌∷◌, ◌++◌, length, Ok, Err, refl, ap, sym, ◌∙◌, subst, append_assoc}
+use Rattle.std.proofs.Common.{◌≡◌, ℕ, suc, inl, inr, Bool, true, false, List, [], ◌∷◌, ◌++◌, length, Ok, Err, refl, ap, sym, ◌∙◌, subst, append_assoc, append-nil}
 use Rattle.cv_lex.specs.declared.word.Word.{Word}
 use Rattle.cv_lex.specs.declared.word.Placed.{Placed}
 use Rattle.cv_readers.specs.Reading.{Miss, Read, Reader, ◌>>=◌, first_is}
 use Rattle.cv_readers.specs.Slots.{Slot, Matches, IsWithin}
 use Rattle.cv_readers.proofs.Matching.{matches_append, matches_split, within_append, within_first, within_second, same_first, same_ends}
+use Rattle.cv_readers.proofs.Above.{InPart, above_whole, above_split}
 use Rattle.cv_readers.proofs.Promises.{never, never_first, missed, Taken, Reaches, Deeper, Stuck, Reads}
 
 abbrev pub chain : {X Y : Type 0} → Reader X → (X → Reader Y) → Reader Y
@@ -152,10 +153,21 @@ local n A B spellA WholeA contA spellB WholeB contB get l k front w rest more (O
 local n A B spellA WholeA contA spellB WholeB contB get l k front w rest more (Err m) e r =
     ap (λ z. z >>= λ q. B q.0 q.1) (l.first.local k front w rest more (e ∙ (let same : m ≡ missed k (suc (length rest)) = cc in ap (λ z. Err z) same)))
 
+deep : {X Y : Type 0} (n : ℕ) (A : Reader X) (B : X → Reader Y) (spellA : X → List Slot) (WholeA : X → Type 0) (contA : X → Word → Bool) (spellB : Y → List Slot) (WholeB : X → Y → Type 0) (contB : Y → Word → Bool) (get : Y → X) → Links n A B spellA WholeA contA spellB WholeB contB get → (y : Y) (front : List Placed) (w : Placed) (rest : List Placed) → BothWhole WholeA WholeB get y → InPart n (spellA (get y)) (spellB y) front w → chain A B (front ++ w ∷ rest) ≡ Err (missed true (suc (length rest)))
+deep n A B spellA WholeA contA spellB WholeB contB get l y front w rest f (inl u) = ap (λ z. z >>= λ p. B p.0 p.1) (l.first.deep (get y) front w rest f.0 u)
+deep n A B spellA WholeA contA spellB WholeB contB get l y front w rest f (inr c) =
+    let all = above_whole n (spellB y) c.vs w c.above in
+    let apart = l.apart (get y) y (c.vs ++ w ∷ all.0) [] f.0 f.1 all.1 refl in
+    let stops = same_first (contA (get y)) c.vs w rest all.0 ∙ ap (first_is (contA (get y))) (sym (append-nil (c.vs ++ w ∷ all.0))) ∙ apart in
+    let a = l.first.again (get y) c.us (c.vs ++ w ∷ rest) f.0 c.low c.first stops in
+    let b = (l.second (get y) f.0).deep y c.vs w rest f.1 c.above in
+    ap (chain A B) (ap (λ z. z ++ w ∷ rest) c.whole ∙ append_assoc c.us c.vs (w ∷ rest)) ∙ ap (λ z. z >>= λ p. B p.0 p.1) a ∙ b
+
 pub then_reads : {X Y : Type 0} (n : ℕ) (A : Reader X) (B : X → Reader Y) (spellA : X → List Slot) (WholeA : X → Type 0) (contA : X → Word → Bool) (spellB : Y → List Slot) (WholeB : X → Y → Type 0) (contB : Y → Word → Bool) (get : Y → X) → Links n A B spellA WholeA contA spellB WholeB contB get → Reads n (chain A B) (both_slots spellA spellB get) (BothWhole WholeA WholeB get) never contB
 then_reads n A B spellA WholeA contA spellB WholeB contB get l = record {
   takes = λ ws y rest s r. taken n A B spellA WholeA contA spellB WholeB contB get l ws y rest (A ws) refl r;
   again = λ y front rest f low m s. again n A B spellA WholeA contA spellB WholeB contB get l y front rest f low m s;
   stuck = λ ws miss r. stuck n A B spellA WholeA contA spellB WholeB contB get l ws miss (A ws) refl r;
   local = λ k front w rest more r. local n A B spellA WholeA contA spellB WholeB contB get l k front w rest more (A (front ++ w ∷ rest)) refl r;
+  deep = λ y front w rest f a. deep n A B spellA WholeA contA spellB WholeB contB get l y front w rest f (above_split n (spellA (get y)) (spellB y) front w a);
 }

@@ -6,6 +6,7 @@ use Rattle.cv_readers.specs.Reading.{Miss, Read, Reader, first_is}
 use Rattle.cv_readers.specs.Combining.{mapped}
 use Rattle.cv_readers.specs.Slots.{Slot, Matches, IsWithin, raise}
 use Rattle.cv_readers.proofs.Matching.{within_raise, within_lower, raise_append, matches_raise, matches_lower}
+use Rattle.cv_readers.proofs.Above.{Above, above_lower}
 use Rattle.cv_readers.proofs.Promises.{missed, read_same, rest_same, Taken, Reaches, Deeper, Stuck, Reads}
 
 -- ---- what was read, in another form
@@ -88,6 +89,7 @@ map_reads n R form spellX spellY WholeX start contX contY same conts reads = rec
       ap (mapped form) a ∙ ap (λ z. Ok (z, rest)) f.same;
   stuck = λ ws miss r. mapped_stuck n form spellX spellY WholeX same ws miss (reads.stuck ws miss (mapped_err form (R ws) miss r));
   local = λ k front w rest more r. ap (mapped form) (reads.local k front w rest more (mapped_err form (R (front ++ w ∷ rest)) (missed k (suc (length rest))) r));
+  deep = λ y front w rest f a. ap (mapped form) (reads.deep f.from front w rest f.fine (subst (λ ss. Above n ss front w) (ap spellY (sym f.same) ∙ same f.from) a));
 }
 
 -- ---- an equal reader, and an equivalent choice of trees
@@ -115,6 +117,7 @@ recast n R S spell spelled Whole Other start cont conts same words goes to from 
       same (front ++ rest) ∙ reads.again x front rest (from x f) (subst (IsWithin n) e low) (subst (λ ss. Matches ss front) e m) (ap (λ c. first_is c rest) (goes x (from x f)) ∙ s);
   stuck = λ ws miss r. recast_stuck n spell spelled Whole Other words to ws miss (reads.stuck ws miss (sym (same ws) ∙ r));
   local = λ k front w rest more r. same (front ++ w ∷ more) ∙ reads.local k front w rest more (sym (same (front ++ w ∷ rest)) ∙ r);
+  deep = λ x front w rest f a. same (front ++ w ∷ rest) ∙ reads.deep x front w rest (from x f) (subst (λ ss. Above n ss front w) (sym (words x (from x f))) a);
 }
 
 -- the same words, with another reader or an equivalent choice of trees
@@ -128,6 +131,7 @@ earlier n R spell Whole start sooner cont less reads = record {
   again = reads.again;
   stuck = reads.stuck;
   local = reads.local;
+  deep = reads.deep;
 }
 
 -- ---- one level more round the words
@@ -167,4 +171,5 @@ raised n R spell Whole start cont reads = record {
             };
       };
   local = reads.local;
+  deep = λ x front w rest f a. reads.deep x front w rest f (above_lower n (spell x) front w a);
 }

@@ -1,10 +1,11 @@
 -- One of two readers, by the first word.
-use Rattle.std.proofs.Common.{◌≡◌, ℕ, suc, ◌⊎◌, inl, inr, Bool, true, false, cond, List, [], ◌∷◌, ◌++◌, length, Ok, Err, refl, ap, sym, ◌∙◌, subst, arith}
+use Rattle.std.proofs.Common.{◌≡◌, ℕ, suc, ◌⊎◌, inl, inr, Bool, true, false, cond, List, [], ◌∷◌, ◌++◌, length, Ok, Err, refl, ap, sym, ◌∙◌, subst, append-nil, arith}
 use Rattle.cv_lex.specs.declared.word.Word.{Word}
 use Rattle.cv_lex.specs.declared.word.Placed.{Placed}
 use Rattle.cv_readers.specs.Reading.{Miss, Reader, first_is, too_deep}
 use Rattle.cv_readers.specs.Slots.{Slot, Fits, Matches, IsWithin}
 use Rattle.cv_readers.proofs.Matching.{Leads, leads_first, same_first}
+use Rattle.cv_readers.proofs.Above.{Above, above_first, above_whole}
 use Rattle.cv_readers.proofs.Promises.{never, missed, none_reached, no_longer, Taken, Stuck, Reads}
 use Rattle.cv_readers.proofs.Changes.{recast_stuck}
 
@@ -36,6 +37,14 @@ again n p A B spell WholeA WholeB cont a b begins avoids x front rest (inl f) lo
 again n p A B spell WholeA WholeB cont a b begins avoids x front rest (inr f) low m s =
     ap (λ c. cond c (A (front ++ rest)) (B (front ++ rest))) (avoids x front rest f m s) ∙ b.again x front rest f low m s
 
+deep : {X : Type 0} (n : ℕ) (p : Word → Bool) (A B : Reader X) (spell : X → List Slot) (WholeA WholeB : X → Type 0) (cont : X → Word → Bool) → Reads n A spell WholeA never cont → Reads n B spell WholeB never cont → ((x : X) → WholeA x → Leads p true (spell x)) → ((x : X) (front rest : List Placed) → WholeB x → Matches (spell x) front → first_is (cont x) rest ≡ false → first_is p (front ++ rest) ≡ false) → (x : X) (front : List Placed) (w : Placed) (rest : List Placed) → Either WholeA WholeB x → Above n (spell x) front w → pick p A B (front ++ w ∷ rest) ≡ Err (missed true (suc (length rest)))
+deep n p A B spell WholeA WholeB cont a b begins avoids x front w rest (inl f) u =
+    ap (λ c. cond c (A (front ++ w ∷ rest)) (B (front ++ w ∷ rest))) (above_first p true n (spell x) front w rest (begins x f) u) ∙ a.deep x front w rest f u
+deep n p A B spell WholeA WholeB cont a b begins avoids x front w rest (inr f) u =
+    let all = above_whole n (spell x) front w u in
+    let other = same_first p front w rest all.0 ∙ ap (first_is p) (sym (append-nil (front ++ w ∷ all.0))) ∙ avoids x (front ++ w ∷ all.0) [] f all.1 refl in
+    ap (λ c. cond c (A (front ++ w ∷ rest)) (B (front ++ w ∷ rest))) other ∙ b.deep x front w rest f u
+
 -- the second reader may read no word at all
 pub choice_reads : {X : Type 0} (n : ℕ) (p : Word → Bool) (A B : Reader X) (spell : X → List Slot) (WholeA WholeB : X → Type 0) (cont : X → Word → Bool) → Reads n A spell WholeA never cont → Reads n B spell WholeB never cont → ((x : X) → WholeA x → Leads p true (spell x)) → ((x : X) (front rest : List Placed) → WholeB x → Matches (spell x) front → first_is (cont x) rest ≡ false → first_is p (front ++ rest) ≡ false) → Reads n (pick p A B) spell (Either WholeA WholeB) never cont
 choice_reads n p A B spell WholeA WholeB cont a b begins avoids = record {
@@ -45,6 +54,7 @@ choice_reads n p A B spell WholeA WholeB cont a b begins avoids = record {
   local = λ k front w rest more r.
       let same = same_first p front w rest more in
       ap (λ c. cond c (A (front ++ w ∷ more)) (B (front ++ w ∷ more))) (sym same) ∙ local n A B spell WholeA WholeB cont a b k front w rest more (first_is p (front ++ w ∷ rest)) r;
+  deep = deep n p A B spell WholeA WholeB cont a b begins avoids;
 }
 
 pub pick_reads : {X : Type 0} (n : ℕ) (p : Word → Bool) (A B : Reader X) (spell : X → List Slot) (WholeA WholeB : X → Type 0) (cont : X → Word → Bool) → Reads n A spell WholeA never cont → Reads n B spell WholeB never cont → ((x : X) → WholeA x → Leads p true (spell x)) → ((x : X) → WholeB x → Leads p false (spell x)) → Reads n (pick p A B) spell (Either WholeA WholeB) never cont
@@ -110,12 +120,24 @@ deep_local p B spell WholeB cont b k (v ∷ front) w rest more true r =
     absurd (no_longer v w front rest (ap (λ m. m.left) same))
 deep_local p B spell WholeB cont b k front w rest more false r = b.local k front w rest more r
 
-pub deep_reads : {X : Type 0} (p : Word → Bool) (B : Reader X) (spell : X → List Slot) (WholeA WholeB : X → Type 0) (cont : X → Word → Bool) → Reads 0 B spell WholeB never cont → ((x : X) → WholeA x → Opens (spell x)) → ((x : X) → WholeB x → Leads p false (spell x)) → ((w : Placed) → p w.word ≡ true → Begun spell WholeA w) → Reads 0 (pick p too_deep B) spell (Either WholeA WholeB) never cont
-deep_reads p B spell WholeA WholeB cont b begins avoids begin = record {
+here_deep : (ss : List Slot) (front : List Placed) (w : Placed) (rest : List Placed) → Opens ss → Above 0 ss front w → missed true (length (front ++ w ∷ rest)) ≡ missed true (suc (length rest))
+here_deep [] front w rest o a = absurd o
+here_deep (s ∷ ss) [] w rest o a = refl
+here_deep (s ∷ ss) (v ∷ front) w rest o a = absurd (omega (arith, o, a.1))
+
+deep_deep : {X : Type 0} (p : Word → Bool) (B : Reader X) (spell : X → List Slot) (WholeA WholeB : X → Type 0) (cont : X → Word → Bool) → Reads 0 B spell WholeB never cont → ((x : X) → WholeA x → Opens (spell x)) → ((x : X) → WholeA x → Leads p true (spell x)) → ((x : X) → WholeB x → Leads p false (spell x)) → (x : X) (front : List Placed) (w : Placed) (rest : List Placed) → Either WholeA WholeB x → Above 0 (spell x) front w → pick p too_deep B (front ++ w ∷ rest) ≡ Err (missed true (suc (length rest)))
+deep_deep p B spell WholeA WholeB cont b begins leads avoids x front w rest (inl f) a =
+    ap (λ c. cond c (too_deep (front ++ w ∷ rest)) (B (front ++ w ∷ rest))) (above_first p true 0 (spell x) front w rest (leads x f) a) ∙ ap (λ m. Err m) (here_deep (spell x) front w rest (begins x f) a)
+deep_deep p B spell WholeA WholeB cont b begins leads avoids x front w rest (inr f) a =
+    ap (λ c. cond c (too_deep (front ++ w ∷ rest)) (B (front ++ w ∷ rest))) (above_first p false 0 (spell x) front w rest (avoids x f) a) ∙ b.deep x front w rest f a
+
+pub deep_reads : {X : Type 0} (p : Word → Bool) (B : Reader X) (spell : X → List Slot) (WholeA WholeB : X → Type 0) (cont : X → Word → Bool) → Reads 0 B spell WholeB never cont → ((x : X) → WholeA x → Opens (spell x)) → ((x : X) → WholeA x → Leads p true (spell x)) → ((x : X) → WholeB x → Leads p false (spell x)) → ((w : Placed) → p w.word ≡ true → Begun spell WholeA w) → Reads 0 (pick p too_deep B) spell (Either WholeA WholeB) never cont
+deep_reads p B spell WholeA WholeB cont b begins leads avoids begin = record {
   takes = λ ws x rest s r. deep_taken B spell WholeA WholeB cont b ws x rest (first_is p ws) s r;
   again = deep_again p B spell WholeA WholeB cont b begins avoids;
   stuck = λ ws miss r. deep_stuck p B spell WholeA WholeB cont b begin ws miss (first_is p ws) refl r;
   local = λ k front w rest more r.
       let same = same_first p front w rest more in
       ap (λ c. cond c (too_deep (front ++ w ∷ more)) (B (front ++ w ∷ more))) (sym same) ∙ deep_local p B spell WholeB cont b k front w rest more (first_is p (front ++ w ∷ rest)) r;
+  deep = deep_deep p B spell WholeA WholeB cont b begins leads avoids;
 }

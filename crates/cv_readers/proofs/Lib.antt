@@ -1,5 +1,6 @@
 pub mod Repeats
 pub mod Matching
+pub mod Above
 pub mod Promises
 pub mod Chains
 pub mod Changes

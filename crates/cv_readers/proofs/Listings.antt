@@ -11,6 +11,7 @@ use Rattle.cv_readers.specs.Reading.{Read, Reader, ◌>>=◌, first_is, behind, 
 use Rattle.cv_readers.specs.Combining.{mapped, with_front, closed, after, many, sep, listed}
 use Rattle.cv_readers.specs.Slots.{Slot, Matches, mark, opening, raise, all_slots, sep_slots, listed_slots, SomeAll}
 use Rattle.cv_readers.proofs.Matching.{Leads, leads_first}
+use Rattle.cv_readers.proofs.Above.{Above}
 use Rattle.cv_readers.proofs.Promises.{never, never_first, missed, no_longer, stuck_first, not_both, Stuck, Reads, word_reads}
 use Rattle.cv_readers.proofs.Chains.{chain, then_reads, both_slots, BothWhole}
 use Rattle.cv_readers.proofs.Changes.{Image, map_reads, recast, rewhole, earlier, raised}
@@ -207,12 +208,17 @@ shut_local : (m : Mark) (k : Bool) (front : List Placed) (w : Placed) (rest more
 shut_local m k [] w rest more e = ap (λ z. missed z.deep (suc (length more))) e
 shut_local m k (v ∷ front) w rest more e = absurd (no_longer v w front rest (ap (λ z. z.left) e))
 
+shut_deep : {X : Type 0} (m : Mark) (R : ℕ → Reader X) (ss : List Slot) (front : List Placed) (w : Placed) (rest : List Placed) → Above 0 (opening m ∷ ss) front w → inside m 0 R (front ++ w ∷ rest) ≡ Err (missed true (suc (length rest)))
+shut_deep m R ss [] w rest a = shut_err m R (w ∷ rest) ∙ ap (λ b. Err (missed b (suc (length rest)))) (ap (is_mark m) (sym a.0.0) ∙ mark_self m)
+shut_deep m R ss (v ∷ front) w rest a = absurd (omega (arith, a.1))
+
 shut_reads : {X : Type 0} (m : Mark) (R : ℕ → Reader X) (spell : X → List Slot) (Whole : X → Type 0) (cont : X → Word → Bool) → (eg : X) → Whole eg → Reads 0 (inside m 0 R) (inside_slots m spell) Whole never cont
 shut_reads m R spell Whole cont eg fine = record {
   takes = λ ws x rest s r. absurd (not_both (inside m 0 R ws) (x, rest) (missed (first_is (is_mark m) ws) (length ws)) r (shut_err m R ws));
   again = λ x front rest f low u s. absurd (omega (arith, low.0));
   stuck = λ ws miss r. subst (Stuck (inside_slots m spell) Whole 0 ws) (let same : missed (first_is (is_mark m) ws) (length ws) ≡ miss = (let e = shut_err m R ws in cc) in same) (shut_stuck m spell Whole eg fine ws (first_is (is_mark m) ws) refl);
   local = λ k front w rest more r. shut_err m R (front ++ w ∷ more) ∙ ap (λ z. Err z) (shut_local m k front w rest more (let e = shut_err m R (front ++ w ∷ rest) in cc));
+  deep = λ x front w rest f a. shut_deep m R (raise (spell x)) front w rest a;
 }
 
 -- a mark that opens a level, and what stands inside

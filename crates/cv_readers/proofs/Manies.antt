@@ -1,5 +1,5 @@
 -- Items one behind another, and items with a mark between them.
-use Rattle.std.proofs.Common.{◌≡◌, ℕ, zero, suc, ◌<◌, ◌≤◌, ◌||◌, Bool, true, false, cond, List, [], ◌∷◌, ◌++◌, length, Ok, Err, refl, ap, sym, ◌∙◌, subst, append_assoc, arith}
+use Rattle.std.proofs.Common.{◌≡◌, ℕ, zero, suc, ◌<◌, ◌≤◌, ◌||◌, inl, inr, Bool, true, false, cond, List, [], ◌∷◌, ◌++◌, length, Ok, Err, refl, ap, sym, ◌∙◌, subst, append_assoc, arith}
 use Rattle.std.proofs.lemmas.List.{length-append}
 use Rattle.std.specs.List.{AllByRecursion}
 use Rattle.cv_lex.specs.declared.word.Word.{Word}
@@ -8,6 +8,7 @@ use Rattle.cv_readers.specs.Reading.{Miss, Read, Reader, first_is}
 use Rattle.cv_readers.specs.Combining.{with_front, many}
 use Rattle.cv_readers.specs.Slots.{Slot, Matches, IsWithin, all_slots}
 use Rattle.cv_readers.proofs.Matching.{matches_append, matches_split, within_append, within_first, within_second, Leads, leads_first, same_first, same_ends}
+use Rattle.cv_readers.proofs.Above.{Above, InPart, above_first, above_split}
 use Rattle.cv_readers.proofs.Promises.{never, never_first, missed, read_same, rest_same, not_both, miss_same, Taken, Reaches, Deeper, Stuck, Reads}
 use Rattle.cv_readers.proofs.Repeats.{many_over, many_more, many_stops}
 
@@ -210,6 +211,31 @@ row_local : {X : Type 0} (n : ℕ) (p c : Word → Bool) (R : Reader X) (spell :
 row_local n p c R spell Whole cont row b w rest more zero front l = local_step n p c R spell Whole cont row b front w rest more (λ next lt. absurd (omega arith)) (first_is p (front ++ w ∷ rest)) refl (R (front ++ w ∷ rest)) refl
 row_local n p c R spell Whole cont row b w rest more (suc k) front l = local_step n p c R spell Whole cont row b front w rest more (λ next lt. row_local n p c R spell Whole cont row b w rest more k next (omega arith)) (first_is p (front ++ w ∷ rest)) refl (R (front ++ w ∷ rest)) refl
 
+-- ---- deep
+
+-- an item that goes on over n levels does not go on with the one before
+above_follows : {X : Type 0} (n : ℕ) (p c : Word → Bool) (R : Reader X) (spell : X → List Slot) (Whole : X → Type 0) (cont : X → Word → Bool) → Row n p c R spell Whole cont → (x : X) → Whole x → (xs : List X) → AllByRecursion Whole xs → (front : List Placed) (w : Placed) (rest : List Placed) → Above n (all_slots spell xs) front w → first_is (cont x) (front ++ w ∷ rest) ≡ false
+above_follows n p c R spell Whole cont row x f [] fs front w rest a = absurd a
+above_follows n p c R spell Whole cont row x f (y ∷ ys) fs front w rest a =
+    above_first (cont x) false n (all_slots spell (y ∷ ys)) front w rest (leads_append (cont x) false (spell y) (all_slots spell ys) (row.follows x y f fs.0)) a
+
+abbrev DeepAt : {X : Type 0} (n : ℕ) (p : Word → Bool) (R : Reader X) (spell : X → List Slot) → List X → Type 0
+DeepAt n p R spell xs = (front : List Placed) (w : Placed) (rest : List Placed) → Above n (all_slots spell xs) front w → many p R (front ++ w ∷ rest) ≡ Err (missed true (suc (length rest)))
+
+deep_step : {X : Type 0} (n : ℕ) (p c : Word → Bool) (R : Reader X) (spell : X → List Slot) (Whole : X → Type 0) (cont : X → Word → Bool) → Row n p c R spell Whole cont → (x : X) → Whole x → (xs : List X) → AllByRecursion Whole xs → DeepAt n p R spell xs → (front : List Placed) (w : Placed) (rest : List Placed) → InPart n (spell x) (all_slots spell xs) front w → many p R (front ++ w ∷ rest) ≡ Err (missed true (suc (length rest)))
+deep_step n p c R spell Whole cont row x f xs fs ih front w rest (inl u) =
+    many_stops p R (front ++ w ∷ rest) (missed true (suc (length rest))) (above_first p true n (spell x) front w rest (row.starts x f) u) (row.item.deep x front w rest f u)
+deep_step n p c R spell Whole cont row x f xs fs ih front w rest (inr b) =
+    let here = row.item.again x b.us (b.vs ++ w ∷ rest) f b.low b.first (above_follows n p c R spell Whole cont row x f xs fs b.vs w rest b.above) in
+    let starts = leads_first p true (spell x) b.us (b.vs ++ w ∷ rest) (row.starts x f) b.first in
+    let l = shorter p true (spell x) b.us (b.us ++ (b.vs ++ w ∷ rest)) (b.vs ++ w ∷ rest) (row.starts x f) b.first refl in
+    ap (many p R) (ap (λ z. z ++ w ∷ rest) b.whole ∙ append_assoc b.us b.vs (w ∷ rest)) ∙ many_more p R (b.us ++ (b.vs ++ w ∷ rest)) x (b.vs ++ w ∷ rest) starts here l ∙ ap (with_front (x ∷ [])) (ih b.vs w rest b.above)
+
+row_deep : {X : Type 0} (n : ℕ) (p c : Word → Bool) (R : Reader X) (spell : X → List Slot) (Whole : X → Type 0) (cont : X → Word → Bool) → Row n p c R spell Whole cont → (xs : List X) → AllByRecursion Whole xs → DeepAt n p R spell xs
+row_deep n p c R spell Whole cont row [] f front w rest a = absurd a
+row_deep n p c R spell Whole cont row (x ∷ xs) f front w rest a =
+    deep_step n p c R spell Whole cont row x f.0 xs f.1 (row_deep n p c R spell Whole cont row xs f.1) front w rest (above_split n (spell x) (all_slots spell xs) front w a)
+
 -- ---- items one behind another
 
 pub many_reads : {X : Type 0} (n : ℕ) (p c : Word → Bool) (R : Reader X) (spell : X → List Slot) (Whole : X → Type 0) (cont : X → Word → Bool) → Row n p c R spell Whole cont → Reads n (many p R) (all_slots spell) (AllByRecursion Whole) (idle p c) (λ _. either p c)
@@ -218,4 +244,5 @@ many_reads n p c R spell Whole cont row = record {
   again = row_again n p c R spell Whole cont row;
   stuck = λ ws miss r. row_stuck n p c R spell Whole cont row (length ws) ws (omega arith) miss r;
   local = λ k front w rest more r. row_local n p c R spell Whole cont row k w rest more (length (front ++ w ∷ rest)) front (omega arith) r;
+  deep = λ xs front w rest f a. row_deep n p c R spell Whole cont row xs f front w rest a;
 }

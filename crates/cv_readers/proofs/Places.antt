@@ -6,6 +6,7 @@ use Rattle.cv_readers.specs.Reading.{Miss, Reader, first_is, place_of}
 use Rattle.cv_readers.specs.Combining.{mapped}
 use Rattle.cv_readers.specs.Slots.{Slot, Fits, Matches, IsWithin, place_first}
 use Rattle.cv_readers.proofs.Matching.{Leads, leads_first, same_first}
+use Rattle.cv_readers.proofs.Above.{Above, above_first}
 use Rattle.cv_readers.proofs.Promises.{never, never_first, missed, read_same, rest_same, Taken, Reaches, Deeper, Stuck, Reads}
 use Rattle.cv_readers.proofs.Changes.{recast_stuck, mapped_ok, mapped_err}
 use Rattle.cv_readers.proofs.Choices.{Either, pick}
@@ -53,6 +54,11 @@ maybe_local : {X : Type 0} (n : ℕ) (A : Reader X) (none : X) (spell : X → Li
 maybe_local n A none spell Whole cont a k front w rest more true r = a.local k front w rest more r
 maybe_local n A none spell Whole cont a k front w rest more false r = cc
 
+maybe_deep : {X : Type 0} (n : ℕ) (p : Word → Bool) (A : Reader X) (none : X) (spell : X → List Slot) (Whole : X → Type 0) (cont : X → Word → Bool) → spell none ≡ [] → ((x : X) → Whole x → Leads p true (spell x)) → Reads n A spell Whole never cont → (x : X) (front : List Placed) (w : Placed) (rest : List Placed) → Either Whole (λ y. none ≡ y) x → Above n (spell x) front w → maybe p A none (front ++ w ∷ rest) ≡ Err (missed true (suc (length rest)))
+maybe_deep n p A none spell Whole cont e begins a x front w rest (inl f) u =
+    ap (λ b. cond b (A (front ++ w ∷ rest)) (Ok (none, front ++ w ∷ rest))) (above_first p true n (spell x) front w rest (begins x f) u) ∙ a.deep x front w rest f u
+maybe_deep n p A none spell Whole cont e begins a x front w rest (inr f) u = absurd (subst (λ ss. Above n ss front w) (ap spell (sym f) ∙ e) u)
+
 pub maybe_reads : {X : Type 0} (n : ℕ) (p : Word → Bool) (A : Reader X) (none : X) (spell : X → List Slot) (Whole : X → Type 0) (cont : X → Word → Bool) → spell none ≡ [] → cont none ≡ p → ((x : X) → Whole x → Leads p true (spell x)) → Reads n A spell Whole never cont → Reads n (maybe p A none) spell (Either Whole (λ y. none ≡ y)) never cont
 maybe_reads n p A none spell Whole cont e c begins a = record {
   takes = λ ws x rest s r. maybe_taken n p A none spell Whole cont e c a ws x rest (first_is p ws) refl r;
@@ -61,6 +67,7 @@ maybe_reads n p A none spell Whole cont e c begins a = record {
   local = λ k front w rest more r.
       let same = same_first p front w rest more in
       ap (λ b. cond b (A (front ++ w ∷ more)) (Ok (none, front ++ w ∷ more))) (sym same) ∙ maybe_local n A none spell Whole cont a k front w rest more (first_is p (front ++ w ∷ rest)) r;
+  deep = maybe_deep n p A none spell Whole cont e begins a;
 }
 
 -- ---- the place of the first word
@@ -97,6 +104,11 @@ matches_place : (at : ℕ) (ss : List Slot) (front rest : List Placed) → Unpla
 matches_place at [] front rest u m = absurd u
 matches_place at (s ∷ ss) [] rest u m = absurd m
 matches_place at (s ∷ ss) (w ∷ front) rest u m = (((m.0.0, free s.at w.at u), m.1), sym m.0.1)
+
+above_place : (n at : ℕ) (ss : List Slot) (front : List Placed) (w : Placed) → Unplaced ss → Above n (place_first at ss) front w → Above n ss front w
+above_place n at [] front w u a = a
+above_place n at (s ∷ ss) [] w u a = ((a.0.0, free s.at w.at u), a.1)
+above_place n at (s ∷ ss) (v ∷ front) w u a = ((a.0.0, free s.at v.at u), a.1, a.2)
 
 front_unplaced : (ss more : List Slot) (s : Slot) (rs : List Slot) → ss ≡ s ∷ rs → Unplaced (ss ++ more) → Unplaced ss
 front_unplaced [] more s rs e u = cc
@@ -155,4 +167,7 @@ here_reads {X} n R spell Whole cont bare reads = record {
   local = λ k front w rest more r.
       let e = reads.local k front w rest more (mapped_err (λ (x : X). (place_of (front ++ w ∷ rest), x)) (R (front ++ w ∷ rest)) (missed k (suc (length rest))) r) in
       ap (mapped (λ (x : X). (place_of (front ++ w ∷ more), x))) e;
+  deep = λ q front w rest f a.
+      let e = reads.deep q.1 front w rest f (above_place n q.0 (spell q.1) front w (bare q.1 f) a) in
+      ap (mapped (λ (x : X). (place_of (front ++ w ∷ rest), x))) e;
 }

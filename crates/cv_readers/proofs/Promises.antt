@@ -5,6 +5,7 @@ use Rattle.cv_lex.specs.declared.word.Word.{Word}
 use Rattle.cv_lex.specs.declared.word.Placed.{Placed}
 use Rattle.cv_readers.specs.Reading.{Miss, Read, Reader, first_is, word_at, found_word}
 use Rattle.cv_readers.specs.Slots.{Slot, Fits, Matches, IsWithin}
+use Rattle.cv_readers.proofs.Above.{Above, not_above}
 
 -- no word
 abbrev pub never : Word → Bool
@@ -62,12 +63,13 @@ pub record Stuck {X : Type 0} (spell : X → List Slot) (Whole : X → Type 0) (
   pub reach : Reaches spell Whole n front
   pub deeper : miss.deep ≡ true → Deeper spell Whole n front bad
 
--- a reader reads exactly the words of its trees, and stops at the first word with which no tree begins; `start` are words that cannot stand first, `cont` those that go on with a tree
+-- a reader reads exactly the words of its trees, stops at the first word with which no tree begins, and at the first one of a tree that is over n levels; `start` are words that cannot stand first, `cont` those that go on with a tree
 pub record Reads {X : Type 0} (n : ℕ) (R : Reader X) (spell : X → List Slot) (Whole : X → Type 0) (start : Word → Bool) (cont : X → Word → Bool) : Type 0 where
   pub takes : (ws : List Placed) (x : X) (rest : List Placed) → first_is start ws ≡ false → R ws ≡ Ok (x, rest) → Taken spell Whole cont n ws x rest
   pub again : (x : X) (front rest : List Placed) → Whole x → IsWithin n (spell x) → Matches (spell x) front → first_is (cont x) rest ≡ false → R (front ++ rest) ≡ Ok (x, rest)
   pub stuck : (ws : List Placed) (miss : Miss) → R ws ≡ Err miss → Stuck spell Whole n ws miss
   pub local : (k : Bool) (front : List Placed) (w : Placed) (rest more : List Placed) → R (front ++ w ∷ rest) ≡ Err (missed k (suc (length rest))) → R (front ++ w ∷ more) ≡ Err (missed k (suc (length more)))
+  pub deep : (x : X) (front : List Placed) (w : Placed) (rest : List Placed) → Whole x → Above n (spell x) front w → R (front ++ w ∷ rest) ≡ Err (missed true (suc (length rest)))
 
 -- what was read, and the words behind it, are told by the answer
 abbrev ok : {X : Type 0} → X × List Placed → Read X
@@ -167,6 +169,7 @@ some_word_reads n what slot Whole flat good back eg f = record {
   again = λ x front rest g low m s. again_word what slot Whole back x front rest g m;
   stuck = word_stuck n what slot Whole eg f;
   local = word_local what;
+  deep = λ x front w rest g a. absurd (not_above n (slot x ∷ []) front w (none_low n (slot x) (flat x)) a);
 }
 
 pub word_reads : {X : Type 0} (n : ℕ) (what : Placed → Option X) (slot : X → Slot) → ((x : X) → (slot x).level ≤ n) → ((w : Placed) (x : X) → what w ≡ Some x → Fits (slot x) w) → ((w : Placed) (x : X) → Fits (slot x) w → what w ≡ Some x) → X → Reads n (word_at what) (λ x. slot x ∷ []) (λ _. Unit {0}) never (λ _. never)

@@ -274,7 +274,7 @@ unfolding factor_at
 factor_reads zero =
     let F : Reader Factor = pick (is_name match_name) (λ ws. mapped factors.Match (match_at 0 ws)) (λ ws. mapped factors.Name (name_at ws)) in
     rewhole 0 (pick lifts too_deep F) (factor_at 0) factor_slots IsFactor WholeFactor never still (λ ws. refl) (λ x f. whole_of x f) (λ x f. shape x f)
-    (deep_reads lifts F factor_slots IsLift IsFlat still (flat_reads 0) lift_opens flat_leads (λ w e. begun_by w (or_cases (is_mark marks.Tilde w.word) (is_mark marks.OpenParen w.word) e)))
+    (deep_reads lifts F factor_slots IsLift IsFlat still (flat_reads 0) lift_opens lift_leads flat_leads (λ w e. begun_by w (or_cases (is_mark marks.Tilde w.word) (is_mark marks.OpenParen w.word) e)))
 factor_reads (suc k) =
     let F : Reader Factor = pick (is_name match_name) (λ ws. mapped factors.Match (match_at (suc k) ws)) (λ ws. mapped factors.Name (name_at ws)) in
     rewhole (suc k) (pick lifts (lift_with (factor_at k)) F) (factor_at (suc k)) factor_slots IsFactor WholeFactor never still (λ ws. refl) (λ x f. whole_of x f) (λ x f. shape x f)

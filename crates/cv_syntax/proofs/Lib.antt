@@ -5,6 +5,7 @@ pub mod Factors
 pub mod Sentences
 pub mod Scripts
 pub mod Levels
+pub mod Uniqueness
 pub mod Theorem
 pub mod Asides
 pub mod Prints

@@ -280,7 +280,7 @@ pub literal_reads : (n : ℕ) → Reads n (literal_at n) literal_slots Any never
 unfolding literal_at
 literal_reads zero =
     rewhole 0 (pick opens too_deep scalar_at) (literal_at 0) literal_slots (Either IsNest (Image form Any)) Any never still (λ ws. refl) (λ x f. tt) (λ x f. shape x)
-    (deep_reads opens scalar_at literal_slots IsNest (Image form Any) still (scalar_reads 0) nest_opens scalar_not_open (λ w e. begun_by w (or_cases (is_mark marks.OpenBracket w.word) (is_mark marks.OpenBrace w.word) e)))
+    (deep_reads opens scalar_at literal_slots IsNest (Image form Any) still (scalar_reads 0) nest_opens (λ x f. nest_leads opens true refl refl x f) scalar_not_open (λ w e. begun_by w (or_cases (is_mark marks.OpenBracket w.word) (is_mark marks.OpenBrace w.word) e)))
 literal_reads (suc k) =
     rewhole (suc k) (pick opens (nest_with (literal_at k)) scalar_at) (literal_at (suc k)) literal_slots (Either IsNest (Image form Any)) Any never still (λ ws. refl) (λ x f. tt) (λ x f. shape x)
     (pick_reads (suc k) opens (nest_with (literal_at k)) scalar_at literal_slots IsNest (Image form Any) still (nest_reads k (literal_at k) (literal_reads k)) (scalar_reads (suc k)) (λ x f. nest_leads opens true refl refl x f) scalar_not_open)

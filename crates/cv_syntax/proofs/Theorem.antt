@@ -1,12 +1,13 @@
 -- What is parsed is what the grammar says.
-use Rattle.std.proofs.Common.{◌≡◌, ℕ, suc, ◌+◌, ◌-◌, ◌≤◌, Bool, true, false, cond, Option, Some, None, IfSome, IfOk, IfErr, List, [], ◌∷◌, ◌++◌, length, slice_get, Result, Ok, Err, refl, ap, sym, ◌∙◌, subst, append_assoc, append-nil, arith}
+use Rattle.std.proofs.Common.{◌≡◌, ℕ, suc, ◌+◌, ◌-◌, ◌≤◌, inl, inr, Bool, true, false, cond, IfOk, IfErr, List, [], ◌∷◌, ◌++◌, length, slice_get, Result, Ok, Err, refl, ap, sym, ◌∙◌, subst, append_assoc, append-nil, arith}
 use Rattle.std.proofs.lemmas.List.{length-append}
 use Rattle.std.specs.List.{AllByRecursion}
 use Rattle.cv_lex.specs.declared.word.Placed.{Placed}
 use Rattle.cv_readers.specs.Reading.{Miss, Read, first_is}
 use Rattle.cv_readers.specs.Slots.{Slot, Matches, IsWithin, all_slots}
 use Rattle.cv_readers.proofs.Matching.{matches_append}
-use Rattle.cv_readers.proofs.Promises.{never, never_first, missed, read_same, not_both, Reaches}
+use Rattle.cv_readers.proofs.Above.{Above, fill, fill_fits, WithinOrClimbs, within_or_climbs, climbs_behind}
+use Rattle.cv_readers.proofs.Promises.{never, never_first, missed, read_same, not_both, miss_same, Reaches}
 use Rattle.cv_readers.proofs.Manies.{either}
 use Rattle.cv_readers.proofs.Kepts.{Kept}
 use Rattle.cv_syntax.specs.declared.tree.Item.{Item}
@@ -16,9 +17,10 @@ use Rattle.cv_syntax.specs.declared.fault.ParseFault.TheVariants as faults
 use Rattle.cv_syntax.specs.Whole.{most_levels, items_at, is_anything}
 use Rattle.cv_syntax.specs.Spelling.{item_slots, script_slots, WholeItem}
 use Rattle.cv_syntax.specs.Parsing.{place_or, place_left, fault_of, answer_of, parsed, Answers}
-use Rattle.cv_syntax.specs.Grammar.{Spells, Begins, BeginsOne, BeginsAny, first_place, IsUnexpected, IsTooDeep, IsFault}
+use Rattle.cv_syntax.specs.Grammar.{Spells, Begins, BeginsAny, first_place, IsUnexpected, IsTooDeep, HasFault, IsFault}
 use Rattle.cv_syntax.proofs.Scripts.{items_reads}
 use Rattle.cv_syntax.proofs.Levels.{rises_items}
+use Rattle.cv_syntax.proofs.Uniqueness.{spelled_whole, one_fault}
 
 -- ---- found
 
@@ -73,32 +75,23 @@ place_is end left ws front bad e l =
 
 -- ---- a word more
 
-place_in : Option ℕ → ℕ
-place_in None = 0
-place_in (Some at) = at
+-- a script that begins so, with at most 16 levels open at each of these words, goes on without the stop
+no_begin_by : (front : List Placed) (w : Placed) (b : Begins (front ++ w ∷ [])) (more : List Placed) → Matches (script_slots b.script) ((front ++ w ∷ []) ++ more) → items_at most_levels ((front ++ w ∷ []) ++ more) ≡ Err (missed true (suc (length more))) → WithinOrClimbs most_levels (script_slots b.script) ((front ++ w ∷ []) ++ more) → ⊥
+no_begin_by front w b more words stop (inl low) =
+    not_both (items_at most_levels ((front ++ w ∷ []) ++ more)) (b.script.items, []) (missed true (suc (length more))) (read_again ((front ++ w ∷ []) ++ more) b.script (record { whole = b.whole; low = low; fits = words })) stop
+no_begin_by front w b more words stop (inr c) =
+    let here : items_at most_levels ((front ++ w ∷ []) ++ more) ≡ Err (missed true (suc (length c.rest))) = ap (items_at most_levels) c.whole ∙ (items_reads most_levels).deep b.script.items c.front c.w c.rest b.whole c.above in
+    let same = miss_same (items_at most_levels ((front ++ w ∷ []) ++ more)) (missed true (suc (length c.rest))) (missed true (suc (length more))) here stop in
+    let left : suc (length c.rest) ≡ suc (length more) = ap (λ m. m.left) same in
+    let behind = climbs_behind most_levels b.ss b.more (front ++ w ∷ []) more c.front c.w c.rest b.fits b.low c.whole (subst (λ ss. Above most_levels ss c.front c.w) b.split c.above) in
+    omega (arith, left, behind)
 
-fill : List Slot → List Placed
-fill [] = []
-fill (s ∷ ss) = record { word = s.word; at = place_in s.at } ∷ fill ss
-
-fill_place : (o : Option ℕ) → IfSome o (λ at. at ≡ place_in o)
-unfolding place_in
-fill_place None = tt
-fill_place (Some at) = refl
-
-fill_fits : (ss : List Slot) → Matches ss (fill ss)
-unfolding fill
-fill_fits [] = tt
-fill_fits (s ∷ ss) = ((refl, fill_place s.at), fill_fits ss)
-
--- a script that begins with the word at which reading stops would be read
-no_begin : (k : Bool) (front : List Placed) (w : Placed) (rest : List Placed) → items_at most_levels (front ++ w ∷ rest) ≡ Err (missed k (suc (length rest))) → ¬ BeginsOne (front ++ w ∷ [])
-no_begin k front w rest e b =
+no_begin : (front : List Placed) (w : Placed) (rest : List Placed) → items_at most_levels (front ++ w ∷ rest) ≡ Err (missed true (suc (length rest))) → ¬ Begins (front ++ w ∷ [])
+no_begin front w rest e b =
     let more = fill b.more in
     let words : Matches (script_slots b.script) ((front ++ w ∷ []) ++ more) = subst (λ ss. Matches ss ((front ++ w ∷ []) ++ more)) (sym b.split) (matches_append b.ss b.more (front ++ w ∷ []) more b.fits (fill_fits b.more)) in
-    let read = read_again ((front ++ w ∷ []) ++ more) b.script (record { whole = b.whole; low = b.low; fits = words }) in
-    let stop = (items_reads most_levels).local k front w rest more e in
-    not_both (items_at most_levels (front ++ w ∷ more)) (b.script.items, []) (missed k (suc (length more))) (ap (items_at most_levels) (sym (append_assoc front (w ∷ []) more)) ∙ read) stop
+    let stop = ap (items_at most_levels) (append_assoc front (w ∷ []) more) ∙ (items_reads most_levels).local true front w rest more e in
+    no_begin_by front w b more words stop (within_or_climbs most_levels (script_slots b.script) ((front ++ w ∷ []) ++ more) words)
 
 -- ---- a word more, whatever the depth
 
@@ -153,6 +146,7 @@ unexpected_by end ws at miss e d p =
       first = λ w rest b.
           let stop : items_at most_levels (t.front ++ w ∷ rest) ≡ Err miss = ap (items_at most_levels) (ap (λ z. t.front ++ z) (sym b) ∙ sym t.whole) ∙ e in
           no_begin_any t.front w rest (stop ∙ ap (λ z. Err z) (miss_is false miss (suc (length rest)) d (ap length (sym b) ∙ t.left)));
+      unfinished = λ b script s. not_both (items_at most_levels ws) (script.items, []) miss (read_again ws script s) e;
     }
 
 too_deep_by : (end : ℕ) (ws : List Placed) (at : ℕ) (miss : Miss) → items_at most_levels ws ≡ Err miss → miss.deep ≡ true → place_left end ws miss.left ≡ at → IsTooDeep ws at
@@ -177,19 +171,32 @@ too_deep_by end ws at miss e d p =
       whole = u.fine;
       first =
           let stop : items_at most_levels (t.front ++ u.w ∷ u.rest) ≡ Err miss = ap (items_at most_levels) (ap (λ z. t.front ++ z) (sym u.whole) ∙ sym t.whole) ∙ e in
-          no_begin true t.front u.w u.rest (stop ∙ ap (λ z. Err z) (miss_is true miss (suc (length u.rest)) d (ap length (sym u.whole) ∙ t.left)));
+          no_begin t.front u.w u.rest (stop ∙ ap (λ z. Err z) (miss_is true miss (suc (length u.rest)) d (ap length (sym u.whole) ∙ t.left)));
     }
 
-fault_by : (end : ℕ) (ws : List Placed) (miss : Miss) (fault : ParseFault) (b : Bool) → items_at most_levels ws ≡ Err miss → miss.deep ≡ b → cond b (faults.TooDeep (place_left end ws miss.left)) (faults.Unexpected (place_left end ws miss.left)) ≡ fault → IsFault end ws fault
-fault_by end ws miss fault true e d f = subst (IsFault end ws) f (too_deep_by end ws (place_left end ws miss.left) miss e d refl)
-fault_by end ws miss fault false e d f = subst (IsFault end ws) f (unexpected_by end ws (place_left end ws miss.left) miss e d refl)
+fault_by : (end : ℕ) (ws : List Placed) (miss : Miss) (b : Bool) → items_at most_levels ws ≡ Err miss → miss.deep ≡ b → HasFault end ws (cond b (faults.TooDeep (place_left end ws miss.left)) (faults.Unexpected (place_left end ws miss.left)))
+fault_by end ws miss true e d = too_deep_by end ws (place_left end ws miss.left) miss e d refl
+fault_by end ws miss false e d = unexpected_by end ws (place_left end ws miss.left) miss e d refl
 
-err_by : (end : ℕ) (ws : List Placed) (fault : ParseFault) (a : Read (List Item)) → items_at most_levels ws ≡ a → answer_of end ws a ≡ Err fault → IsFault end ws fault
+has_fault : (end : ℕ) (ws : List Placed) (miss : Miss) → items_at most_levels ws ≡ Err miss → HasFault end ws (fault_of end ws miss)
+has_fault end ws miss e = fault_by end ws miss miss.deep e refl
+
+err_by : (end : ℕ) (ws : List Placed) (fault : ParseFault) (a : Read (List Item)) → items_at most_levels ws ≡ a → answer_of end ws a ≡ Err fault → HasFault end ws fault
 err_by end ws fault (Ok p) e r = cc
-err_by end ws fault (Err miss) e r = fault_by end ws miss fault miss.deep e refl (let same : fault_of end ws miss ≡ fault = cc in same)
+err_by end ws fault (Err miss) e r = subst (HasFault end ws) (let same : fault_of end ws miss ≡ fault = cc in same) (has_fault end ws miss e)
 
 pub fault_is : (end : ℕ) (ws : List Placed) (r : Result Script ParseFault) → Answers r (parsed end ws) → IfErr r (IsFault end ws)
 fault_is end ws (Ok script) e = tt
 fault_is end ws (Err (faults.Unexpected at)) e = err_by end ws (faults.Unexpected at) (items_at most_levels ws) refl e
 fault_is end ws (Err (faults.TooDeep at)) e = err_by end ws (faults.TooDeep at) (items_at most_levels ws) refl e
 fault_is end ws (Err faults.OutOfMemory) e = tt
+
+-- ---- faulty
+
+faulty_by : (end : ℕ) (ws : List Placed) (fault : ParseFault) → HasFault end ws fault → (a : Read (List Item)) → items_at most_levels ws ≡ a → answer_of end ws a ≡ Err fault
+faulty_by end ws fault f (Ok p) e = absurd (spelled_whole end ws (record { items = p.0 }) (found_by end ws (record { items = p.0 }) (Ok p) e refl) fault f)
+faulty_by end ws fault f (Err miss) e = ap (λ g. Err g) (one_fault end ws (fault_of end ws miss) fault (has_fault end ws miss e) f)
+
+-- words that have a fault are answered with it
+pub faulty_of : (end : ℕ) (ws : List Placed) (r : Result Script ParseFault) → Answers r (parsed end ws) → (fault : ParseFault) → HasFault end ws fault → Answers r (Err fault)
+faulty_of end ws r e fault f = subst (Answers r) (faulty_by end ws fault f (items_at most_levels ws) refl) e

@@ -24,16 +24,6 @@ pub record Begins (front : List Placed) : Type 0 where
   pub low : IsWithin most_levels ss
   pub whole : WholeScript script
 
--- a script that nests at most 16 deep begins with these words
-pub record BeginsOne (front : List Placed) : Type 0 where
-  pub script : Script
-  pub ss : List Slot
-  pub more : List Slot
-  pub split : script_slots script ≡ ss ++ more
-  pub fits : Matches ss front
-  pub low : IsWithin most_levels (script_slots script)
-  pub whole : WholeScript script
-
 -- a script of any depth begins with these words
 pub record BeginsAny (front : List Placed) : Type 0 where
   pub script : Script
@@ -48,7 +38,7 @@ abbrev pub first_place : ℕ → List Placed → ℕ
 first_place end [] = end
 first_place end (w ∷ ws) = w.at
 
--- the words begin a script as far as the place, and none of any depth with the word at the place
+-- the words begin a script as far as the place, and none of any depth with the word at the place; where no word is left they spell no script
 pub record IsUnexpected (end : ℕ) (ws : List Placed) (at : ℕ) : Type 0 where
   pub front : List Placed
   pub bad : List Placed
@@ -56,8 +46,9 @@ pub record IsUnexpected (end : ℕ) (ws : List Placed) (at : ℕ) : Type 0 where
   pub place : at ≡ first_place end bad
   pub begins : Begins front
   pub first : (w : Placed) (rest : List Placed) → bad ≡ w ∷ rest → ¬ BeginsAny (front ++ w ∷ [])
+  pub unfinished : bad ≡ [] → (script : Script) → ¬ Spells ws script
 
--- the words begin a script as far as the place and with the word at the place, which opens the 17th level; no script that nests at most 16 deep begins with that word
+-- the words begin a script as far as the place and with the word at the place, which opens the 17th level; no script begins with these words in which at most 16 levels are open at each of them
 pub record IsTooDeep (ws : List Placed) (at : ℕ) : Type 0 where
   pub front : List Placed
   pub w : Placed
@@ -74,10 +65,16 @@ pub record IsTooDeep (ws : List Placed) (at : ℕ) : Type 0 where
   pub low : IsWithin most_levels ss
   pub level : s.level ≡ suc most_levels
   pub whole : WholeScript script
-  pub first : ¬ BeginsOne (front ++ w ∷ [])
+  pub first : ¬ Begins (front ++ w ∷ [])
 
--- what each fault says; want of memory says nothing
+-- the words of a source of that length have the fault
+abbrev pub HasFault : ℕ → List Placed → ParseFault → Type 0
+HasFault end ws (faults.Unexpected at) = IsUnexpected end ws at
+HasFault end ws (faults.TooDeep at) = IsTooDeep ws at
+HasFault end ws faults.OutOfMemory = ⊥
+
+-- a fault is the words', but want of memory may come at any time
 abbrev pub IsFault : ℕ → List Placed → ParseFault → Type 0
-IsFault end ws (faults.Unexpected at) = IsUnexpected end ws at
-IsFault end ws (faults.TooDeep at) = IsTooDeep ws at
+IsFault end ws (faults.Unexpected at) = HasFault end ws (faults.Unexpected at)
+IsFault end ws (faults.TooDeep at) = HasFault end ws (faults.TooDeep at)
 IsFault end ws faults.OutOfMemory = Unit {0}

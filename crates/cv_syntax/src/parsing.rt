@@ -1,10 +1,11 @@
 //! Lexemes parsed to a script.
 
-ghost use Rattle.std.specs.Prelude.{◌≡◌, ◌≤◌, ◌^◌, length, Ok, IfOk, IfErr};
+ghost use Rattle.std.specs.Prelude.{◌≡◌, ◌≤◌, ◌^◌, length, Ok, Err, IfOk, IfErr};
 ghost use Rattle.cv_lex.specs.Lexemes.{lexemes as lexemes_of};
 ghost use Rattle.cv_readers.specs.Reading.{Miss};
 ghost use Rattle.cv_syntax.specs.declared.tree.Script.{Script};
-ghost use Rattle.cv_syntax.specs.Grammar.{Spells, IsFault};
+ghost use Rattle.cv_syntax.specs.declared.fault.ParseFault.{ParseFault};
+ghost use Rattle.cv_syntax.specs.Grammar.{Spells, HasFault, IsFault};
 ghost use Rattle.cv_syntax.specs.Parsing.{words_of, place_left, parsed, Answers};
 
 use crate::fault::ParseFault;
@@ -59,10 +60,10 @@ pub fn parse(alloc: Global, source: &str, lexemes: &[Lexeme]) -> Result<Script, 
     // What these words spell is parsed, unless memory runs out, and they spell nothing else.
     ensures only { (script : Script) → Spells (words_of source.now lexemes.now) script → Answers result (Ok script) }
     ensures one { (a b : Script) → Spells (words_of source.now lexemes.now) a → Spells (words_of source.now lexemes.now) b → a ≡ b }
-    // Where the words begin a script and go on with none, or open a level too many.
+    // Where the words begin a script and go on with none, or open a level too many. Words with
+    // such a fault are answered with it, unless memory runs out.
     ensures fault { IfErr result (IsFault (length source.now) (words_of source.now lexemes.now)) }
-    // Which answer it is.
-    ensures exact { Answers result (parsed (length source.now) (words_of source.now lexemes.now)) }
+    ensures faulty { (fault : ParseFault) → HasFault (length source.now) (words_of source.now lexemes.now) fault → Answers result (Err fault) }
 {
     parse_all(alloc, source, lexemes)
 }
