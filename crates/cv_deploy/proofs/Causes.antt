@@ -1,5 +1,5 @@
 -- The cause of each refusal of the bytes of a script.
-use Rattle.std.proofs.Common.{◌≡◌, ℕ, List, length, Ok, Err, sym, subst}
+use Rattle.std.proofs.Common.{ℕ, List, length, Err, sym, subst}
 use Rattle.std.specs.Str.{IsUtf8}
 use Rattle.cv_lex.specs.declared.lexeme.Lexeme.{Lexeme}
 use Rattle.cv_lex.specs.declared.lexeme.LexFault.{LexFault}
@@ -8,25 +8,20 @@ use Rattle.cv_lex.specs.Faults.{IsCaused as IsLexCaused}
 use Rattle.cv_lex.specs.Spelling.{Spells as SpellsLexemes}
 use Rattle.cv_syntax.specs.declared.fault.ParseFault.{ParseFault}
 use Rattle.cv_syntax.specs.declared.fault.ParseFault.TheVariants as parsing
-use Rattle.cv_syntax.specs.Grammar.{IsFault, Spells as SpellsTree}
-use Rattle.cv_syntax.specs.Parsing.{words_of, FailsAt}
+use Rattle.cv_syntax.specs.Grammar.{IsFault}
+use Rattle.cv_syntax.specs.Parsing.{words_of}
 use Rattle.cv_deploy.specs.declared.fault.Fault.{Fault}
 use Rattle.cv_deploy.specs.declared.fault.NoNetwork.{NoNetwork}
 use Rattle.cv_deploy.specs.declared.fault.NoNetwork.TheVariants as refusal
-use Rattle.cv_syntax.specs.declared.tree.Script.{Script}
 use Rattle.cv_deploy.specs.Faults.{HasCode, IsCaused, LexedTo, ParsedTo, Gives, Refuses}
 
-not_ok : (script : Script) (fault : ParseFault) → Ok script ≡ Err fault → ⊥
-not_ok script fault e = cc
-
-pub parse_caused : (bytes : List ℕ) (found : List Lexeme) (fault : ParseFault) (r : NoNetwork) → IsUtf8 bytes → SpellsLexemes 0 bytes found
-    → ((script : Script) → SpellsTree (words_of bytes found) script → FailsAt fault (Ok script)) → IsFault (length bytes) (words_of bytes found) fault → ParsedTo bytes fault r → IsCaused bytes r
-parse_caused bytes found (parsing.Unexpected at) (refusal.Script f) utf8 lexed only is told = subst (HasCode bytes f) (sym told.1) (utf8, (found, at, lexed, (λ script spelled. not_ok script _ (only script spelled)), is, told.0))
-parse_caused bytes found (parsing.TooDeep at) (refusal.Script f) utf8 lexed only is told = subst (HasCode bytes f) (sym told.1) (utf8, (found, at, lexed, (λ script spelled. not_ok script _ (only script spelled)), is, told.0))
-parse_caused bytes found (parsing.Unexpected at) refusal.OutOfMemory utf8 lexed only is told = tt
-parse_caused bytes found (parsing.TooDeep at) refusal.OutOfMemory utf8 lexed only is told = tt
-parse_caused bytes found parsing.OutOfMemory (refusal.Script f) utf8 lexed only is told = cc
-parse_caused bytes found parsing.OutOfMemory refusal.OutOfMemory utf8 lexed only is told = tt
+pub parse_caused : (bytes : List ℕ) (found : List Lexeme) (fault : ParseFault) (r : NoNetwork) → IsUtf8 bytes → SpellsLexemes 0 bytes found → IsFault (length bytes) (words_of bytes found) fault → ParsedTo bytes fault r → IsCaused bytes r
+parse_caused bytes found (parsing.Unexpected at) (refusal.Script f) utf8 lexed is told = subst (HasCode bytes f) (sym told.1) (utf8, (found, at, lexed, is, told.0))
+parse_caused bytes found (parsing.TooDeep at) (refusal.Script f) utf8 lexed is told = subst (HasCode bytes f) (sym told.1) (utf8, (found, at, lexed, is, told.0))
+parse_caused bytes found (parsing.Unexpected at) refusal.OutOfMemory utf8 lexed is told = tt
+parse_caused bytes found (parsing.TooDeep at) refusal.OutOfMemory utf8 lexed is told = tt
+parse_caused bytes found parsing.OutOfMemory (refusal.Script f) utf8 lexed is told = cc
+parse_caused bytes found parsing.OutOfMemory refusal.OutOfMemory utf8 lexed is told = tt
 
 -- a refusal by want of memory says as much of another value
 pub gives_err : {X Y : Type 0} → (e : NoNetwork) (x : X) (y : Y) → Gives {X = X} (Err e) x → Gives {X = Y} (Err e) y

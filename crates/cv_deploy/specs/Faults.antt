@@ -19,7 +19,7 @@ use Rattle.cv_syntax.specs.declared.fault.ParseFault.{ParseFault}
 use Rattle.cv_syntax.specs.declared.fault.ParseFault.TheVariants as parsing
 use Rattle.cv_syntax.specs.declared.tree.Item.{Item}
 use Rattle.cv_syntax.specs.declared.tree.Script.{Script}
-use Rattle.cv_syntax.specs.Grammar.{Spells as SpellsTree, IsFault}
+use Rattle.cv_syntax.specs.Grammar.{Spells as SpellsTree, HasFault as HasParseFault}
 use Rattle.cv_syntax.specs.Parsing.{words_of}
 use Rattle.cv_deploy.specs.declared.fault.Code.{Code}
 use Rattle.cv_deploy.specs.declared.fault.Code.TheVariants as code
@@ -55,20 +55,16 @@ SpellsScript bytes script = IsUtf8 bytes × ((found : List Lexeme) × SpellsLexe
 abbrev pub Means : List ℕ → Net → Type 0
 Means bytes net = (script : Script) × SpellsScript bytes script × StandsFor script.items net
 
--- the lexemes spell no script
-abbrev pub SpellNone : List ℕ → List Lexeme → Type 0
-SpellNone bytes found = (script : Script) → SpellsTree (words_of bytes found) script → ⊥
-
 -- ---- causes
 
 -- a fault of the lexemes, which makes the bytes' first bad place
 abbrev pub FailsToLex : List ℕ → (ℕ → LexFault) → Fault → Type 0
 FailsToLex bytes cause fault = IsUtf8 bytes × ((at : ℕ) × HasLexFault bytes (cause at) × StandsAt bytes at fault)
 
--- the bytes spell lexemes, and these no script, from a place on
+-- the bytes spell lexemes, and these have a fault of the grammar
 abbrev pub FailsToParse : List ℕ → (ℕ → ParseFault) → Fault → Type 0
 FailsToParse bytes cause fault =
-    IsUtf8 bytes × ((found : List Lexeme) × (at : ℕ) × SpellsLexemes 0 bytes found × SpellNone bytes found × IsFault (length bytes) (words_of bytes found) (cause at) × StandsAt bytes at fault)
+    IsUtf8 bytes × ((found : List Lexeme) × (at : ℕ) × SpellsLexemes 0 bytes found × HasParseFault (length bytes) (words_of bytes found) (cause at) × StandsAt bytes at fault)
 
 -- a code, and the place at which it stands
 pub record Said : Type 0 where

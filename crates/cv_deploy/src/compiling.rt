@@ -3,11 +3,10 @@
 ghost use Rattle.std.specs.Prelude.{◌≡◌, ◌≤◌, ◌^◌, length, IfOk, IfErr};
 ghost use Rattle.cv_kinds.specs.Net.{Net};
 ghost use Rattle.cv_kinds.specs.Wired.{IsWired};
-ghost use Rattle.cv_deploy.specs.Faults.{Means, SpellsScript, Gives, Refuses, IsCaused, HasScriptFault, IsScriptFault, first_fault};
+ghost use Rattle.cv_deploy.specs.Faults.{Means, Gives, Refuses, IsCaused, HasFault, HasScriptFault, IsScriptFault, first_fault};
 ghost use Rattle.cv_deploy.specs.Meaning.{StandsFor};
 ghost use Rattle.cv_deploy.specs.declared.fault.Fault.{Fault};
 ghost use Rattle.cv_deploy.specs.declared.fault.NoNetwork.TheVariants as refusal;
-ghost use Rattle.cv_syntax.specs.declared.tree.Script.{Script};
 
 use crate::fault::{Code, Fault, NoNetwork};
 use crate::placing::fault_at;
@@ -43,8 +42,8 @@ pub fn compile(alloc: Global, bytes: &[u8]) -> Result<Network, NoNetwork>
     ensures only { (net : Net) → Means bytes.now net → Gives result net }
     // A fault is the bytes', at its place.
     ensures fault { IfErr result (IsCaused bytes.now) }
-    // The fault of a script that the bytes spell is answered, unless memory runs out.
-    ensures refused { (script : Script) (fault : Fault) → SpellsScript bytes.now script → HasScriptFault bytes.now script.items fault → Refuses result fault }
+    // Bytes that have a fault are answered with it, unless memory runs out.
+    ensures faulty { (fault : Fault) → HasFault bytes.now fault → Refuses result fault }
 {
     let Ok(source) = std::str::from_utf8(bytes) else {
         return Err(at_first(Code::NotUtf8))

@@ -1,9 +1,10 @@
 //! The script that bytes spell.
 
-ghost use Rattle.std.specs.Prelude.{◌≡◌, ◌≤◌, ◌^◌, length, Ok, IfOk, IfErr};
+ghost use Rattle.std.specs.Prelude.{◌≡◌, ◌≤◌, ◌^◌, ◌⊎◌, length, Ok, IfOk, IfErr};
 ghost use Rattle.cv_lex.specs.Lexemes.{lexemes as lexemes_of};
 ghost use Rattle.cv_syntax.specs.declared.tree.Script.{Script};
-ghost use Rattle.cv_deploy.specs.Faults.{SpellsScript, Gives, IsCaused, LexedTo, ParsedTo};
+ghost use Rattle.cv_deploy.specs.declared.fault.Fault.{Fault};
+ghost use Rattle.cv_deploy.specs.Faults.{SpellsScript, SpellsFault, Gives, Refuses, HasFault, IsCaused, LexedTo, ParsedTo};
 
 use crate::fault::{Code, NoNetwork};
 use crate::placing::fault_at;
@@ -17,6 +18,8 @@ pub fn script_of(alloc: Global, source: &str) -> Result<Script, NoNetwork>
     ensures found { IfOk result (SpellsScript source.now) }
     ensures only { (script : Script) → SpellsScript source.now script → Gives result script }
     ensures fault { IfErr result (IsCaused source.now) }
+    // A fault of the lexemes or of the grammar is answered, unless memory runs out.
+    ensures faulty { (fault : Fault) → HasFault source.now fault → Refuses result fault ⊎ SpellsFault source.now fault }
 {
     let lexemes = match lex(alloc, source) {
         Ok(lexemes) => lexemes,

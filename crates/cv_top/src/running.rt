@@ -3,14 +3,13 @@
 ghost use Rattle.std.specs.Prelude.{◌≡◌, ◌≤◌, ◌^◌, ℕ, List, ◌++◌, length, Some, string_bytes, IfOk, IfErr, OnOk};
 ghost use Rattle.cv_deploy.specs.declared.fault.Code.TheVariants as code;
 ghost use Rattle.cv_deploy.specs.declared.fault.Fault.{Fault};
-ghost use Rattle.cv_deploy.specs.Faults.{HasScriptFault, Means, SpellsScript, first_fault};
+ghost use Rattle.cv_deploy.specs.Faults.{HasFault, Means, first_fault};
 ghost use Rattle.cv_kinds.specs.Net.{Net};
 ghost use Rattle.cv_kinds.specs.Wired.{HasOneReader, IsWired};
 ghost use Rattle.cv_network.specs.Written.{network_token};
 ghost use Rattle.cv_node.specs.declared.run.Stop.{Stop};
 ghost use Rattle.cv_solo.specs.OneRuntime.{Runtime, opening, solo, solo_from};
 ghost use Rattle.cv_solo.specs.PlainNetwork.{IsPlainRun};
-ghost use Rattle.cv_syntax.specs.declared.tree.Script.{Script};
 ghost use Rattle.cv_token.specs.Spelling.{spelling};
 ghost use Rattle.cv_top.specs.declared.end.End.TheVariants as end;
 ghost use Rattle.cv_top.specs.declared.words.Task.TheVariants as tasks;
@@ -37,7 +36,7 @@ pub fn do_task(alloc: Global, bytes: &[u8], task: Task) -> Result<Answer, Refusa
     ensures cause { IfErr result (IsRefusalOf task bytes.now) }
     ensures complete { (net : Net) → Means bytes.now net → IsBuilt task net → UnlessRefused result DoneOrFailed }
     ensures unbuilt { (net : Net) → Means bytes.now net → (IsBuilt task net → ⊥) → RefusedBy result (FaultOrFailed (first_fault code.Unbuilt)) }
-    ensures faulty { (script : Script) (fault : Fault) → SpellsScript bytes.now script → HasScriptFault bytes.now script.items fault → RefusedBy result (FaultOrFailed fault) }
+    ensures faulty { (fault : Fault) → HasFault bytes.now fault → RefusedBy result (FaultOrFailed fault) }
 {
     match compile(alloc, bytes) {
         Ok(net) => do_with(alloc, net, task),

@@ -3,9 +3,8 @@
 ghost use Rattle.std.specs.Prelude.{◌≡◌, ◌⊎◌, ℕ, List, map, string_bytes, vec_len, Some, IfErr};
 ghost use Rattle.cv_deploy.specs.declared.fault.Code.TheVariants as code;
 ghost use Rattle.cv_deploy.specs.declared.fault.Fault.{Fault};
-ghost use Rattle.cv_deploy.specs.Faults.{HasScriptFault, Means, SpellsScript, first_fault};
+ghost use Rattle.cv_deploy.specs.Faults.{HasFault, Means, first_fault};
 ghost use Rattle.cv_kinds.specs.Net.{Net};
-ghost use Rattle.cv_syntax.specs.declared.tree.Script.{Script};
 ghost use Rattle.cv_top.specs.declared.words.Command.TheVariants.{Script as AsksScript};
 ghost use Rattle.cv_top.specs.declared.words.Task.{Task};
 ghost use Rattle.cv_top.specs.Answers.{status_of, IsAnswered, IsDecided, IsTaskDecided, IsGenAnswer};
@@ -45,10 +44,10 @@ pub fn calvin<R: Threads + Sync, S: Source, K: Sink, G: Gate>(
 
     // Words that ask for a command and bytes that mean a network end as the command does, unless memory runs out or the
     // source or the sink fails; but a run of a network of which an outport has several readers ends in Unbuilt at 1:1. Bytes
-    // that spell a script with a fault of its components, kinds, arguments or joins, or with a rule, end in that fault.
+    // that have a fault end in that fault.
     ensures complete { (task : Task) (bytes : List ℕ) (net : Net) → command_of (map string_bytes words.now) ≡ Some (AsksScript task) → IsToldWithin (S.left source.old) bytes → Means bytes net → IsBuilt task net → DoneOrFailed result.end }
     ensures unbuilt { (task : Task) (bytes : List ℕ) (net : Net) → command_of (map string_bytes words.now) ≡ Some (AsksScript task) → IsToldWithin (S.left source.old) bytes → Means bytes net → (IsBuilt task net → ⊥) → FaultOrFailed (first_fault code.Unbuilt) result.end }
-    ensures faulty { (task : Task) (bytes : List ℕ) (script : Script) (fault : Fault) → command_of (map string_bytes words.now) ≡ Some (AsksScript task) → IsToldWithin (S.left source.old) bytes → SpellsScript bytes script → HasScriptFault bytes script.items fault → FaultOrFailed fault result.end }
+    ensures faulty { (task : Task) (bytes : List ℕ) (fault : Fault) → command_of (map string_bytes words.now) ≡ Some (AsksScript task) → IsToldWithin (S.left source.old) bytes → HasFault bytes fault → FaultOrFailed fault result.end }
 {
     match answer(alloc, words, source) {
         Ok(answer) => {
@@ -64,7 +63,7 @@ fn answer<S: Source>(alloc: Global, words: &[String], source: &mut S) -> Result<
     ensures decided { IsDecided (map string_bytes words.now) (record { left = S.left source.old; rest = S.left source.new; before = S.faults source.old; now = S.faults source.new }) result }
     ensures complete { (task : Task) (bytes : List ℕ) (net : Net) → command_of (map string_bytes words.now) ≡ Some (AsksScript task) → IsToldWithin (S.left source.old) bytes → Means bytes net → IsBuilt task net → UnlessRefused result DoneOrFailed }
     ensures unbuilt { (task : Task) (bytes : List ℕ) (net : Net) → command_of (map string_bytes words.now) ≡ Some (AsksScript task) → IsToldWithin (S.left source.old) bytes → Means bytes net → (IsBuilt task net → ⊥) → RefusedBy result (FaultOrFailed (first_fault code.Unbuilt)) }
-    ensures faulty { (task : Task) (bytes : List ℕ) (script : Script) (fault : Fault) → command_of (map string_bytes words.now) ≡ Some (AsksScript task) → IsToldWithin (S.left source.old) bytes → SpellsScript bytes script → HasScriptFault bytes script.items fault → RefusedBy result (FaultOrFailed fault) }
+    ensures faulty { (task : Task) (bytes : List ℕ) (fault : Fault) → command_of (map string_bytes words.now) ≡ Some (AsksScript task) → IsToldWithin (S.left source.old) bytes → HasFault bytes fault → RefusedBy result (FaultOrFailed fault) }
 {
     match read_command(words) {
         Some(Command::Script(task)) => do_source(alloc, source, task),
@@ -78,7 +77,7 @@ fn do_source<S: Source>(alloc: Global, source: &mut S, task: Task) -> Result<Ans
     ensures decided { IsTaskDecided task (record { left = S.left source.old; rest = S.left source.new; before = S.faults source.old; now = S.faults source.new }) result }
     ensures complete { (bytes : List ℕ) (net : Net) → IsToldWithin (S.left source.old) bytes → Means bytes net → IsBuilt task net → UnlessRefused result DoneOrFailed }
     ensures unbuilt { (bytes : List ℕ) (net : Net) → IsToldWithin (S.left source.old) bytes → Means bytes net → (IsBuilt task net → ⊥) → RefusedBy result (FaultOrFailed (first_fault code.Unbuilt)) }
-    ensures faulty { (bytes : List ℕ) (script : Script) (fault : Fault) → IsToldWithin (S.left source.old) bytes → SpellsScript bytes script → HasScriptFault bytes script.items fault → RefusedBy result (FaultOrFailed fault) }
+    ensures faulty { (bytes : List ℕ) (fault : Fault) → IsToldWithin (S.left source.old) bytes → HasFault bytes fault → RefusedBy result (FaultOrFailed fault) }
 {
     let bytes = read_script(alloc, source)?;
     do_task(alloc, bytes.as_slice(), task)

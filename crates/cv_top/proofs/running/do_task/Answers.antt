@@ -21,7 +21,7 @@ returns-in-Ok-clause-unbuilt c = λ net means not_built.
     unbuilt_told c.args.task c.in-Ok.net c.do_with.result c.do_with.ensures.built c.do_with.ensures.cause (λ built. not_built (subst (λ (n : Net). IsBuilt c.args.task n) (c.in-Ok.ensures.only net means) built))
 
 pub returns-in-Ok-clause-faulty : goal.returns-in-Ok-clause-faulty
-returns-in-Ok-clause-faulty c = λ script fault spells has. absurd (c.in-Ok.ensures.refused script fault spells has)
+returns-in-Ok-clause-faulty c = λ fault has. absurd (c.in-Ok.ensures.faulty fault has)
 
 pub returns-in-Err-clause-cause : goal.returns-in-Err-clause-cause
 returns-in-Err-clause-cause c = subst (λ x. IsRefusalOf c.args.task c.args.bytes.now x) (sym c.refusal_of.ensures) (told_cause c.args.task c.args.bytes.now _ c.in-Err.ensures.fault)
@@ -34,4 +34,4 @@ returns-in-Err-clause-unbuilt c = λ net means not_built.
     subst (λ x. FaultOrFailed (first_fault code.Unbuilt) (end_of x)) (sym c.refusal_of.ensures) (memory_alone (FaultOrFailed (first_fault code.Unbuilt)) _ net tt (c.in-Err.ensures.only net means))
 
 pub returns-in-Err-clause-faulty : goal.returns-in-Err-clause-faulty
-returns-in-Err-clause-faulty c = λ script fault spells has. subst (λ x. FaultOrFailed fault (end_of x)) (sym c.refusal_of.ensures) (fault_told _ fault (c.in-Err.ensures.refused script fault spells has))
+returns-in-Err-clause-faulty c = λ fault has. subst (λ x. FaultOrFailed fault (end_of x)) (sym c.refusal_of.ensures) (fault_told _ fault (c.in-Err.ensures.faulty fault has))

@@ -18,4 +18,4 @@ returns-in-Some-Script-clause-unbuilt g c = λ task bytes net asked told means n
     c.do_source.ensures.unbuilt bytes net told means (λ built. not_built (subst (λ (t : Task). IsBuilt t net) (sym same) built))
 
 pub returns-in-Some-Script-clause-faulty : goal.returns-in-Some-Script-clause-faulty
-returns-in-Some-Script-clause-faulty g c = λ task bytes script fault asked told spells has. c.do_source.ensures.faulty bytes script fault told spells has
+returns-in-Some-Script-clause-faulty g c = λ task bytes fault asked told has. c.do_source.ensures.faulty bytes fault told has

@@ -11,7 +11,7 @@ pub returns-in-Ok-clause-unbuilt : goal.returns-in-Ok-clause-unbuilt
 returns-in-Ok-clause-unbuilt g c = λ task bytes net asked told means not_built. absurd (c.in-Ok.ensures.unbuilt task bytes net asked told means not_built)
 
 pub returns-in-Ok-clause-faulty : goal.returns-in-Ok-clause-faulty
-returns-in-Ok-clause-faulty g c = λ task bytes script fault asked told spells has. absurd (c.in-Ok.ensures.faulty task bytes script fault asked told spells has)
+returns-in-Ok-clause-faulty g c = λ task bytes fault asked told has. absurd (c.in-Ok.ensures.faulty task bytes fault asked told has)
 
 pub returns-in-Err-clause-complete : goal.returns-in-Err-clause-complete
 returns-in-Err-clause-complete g c = λ task bytes net asked told means built.
@@ -22,5 +22,5 @@ returns-in-Err-clause-unbuilt g c = λ task bytes net asked told means not_built
     by_end (FaultOrFailed (first_fault code.Unbuilt)) c.in-Err.refusal c.tell_refusal.result.end (c.in-Err.ensures.unbuilt task bytes net asked told means not_built) tt tt c.tell_refusal.ensures.ends
 
 pub returns-in-Err-clause-faulty : goal.returns-in-Err-clause-faulty
-returns-in-Err-clause-faulty g c = λ task bytes script fault asked told spells has.
-    by_end (FaultOrFailed fault) c.in-Err.refusal c.tell_refusal.result.end (c.in-Err.ensures.faulty task bytes script fault asked told spells has) tt tt c.tell_refusal.ensures.ends
+returns-in-Err-clause-faulty g c = λ task bytes fault asked told has.
+    by_end (FaultOrFailed fault) c.in-Err.refusal c.tell_refusal.result.end (c.in-Err.ensures.faulty task bytes fault asked told has) tt tt c.tell_refusal.ensures.ends

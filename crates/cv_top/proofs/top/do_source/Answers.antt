@@ -1,5 +1,5 @@
 use Rattle.std.proofs.Common.{ℕ, List, sym, ◌∙◌, subst}
-use Rattle.cv_deploy.specs.Faults.{Means, SpellsScript, HasScriptFault}
+use Rattle.cv_deploy.specs.Faults.{Means, HasFault}
 use Rattle.cv_top.proofs.Refusals.{read_whole, task_decided}
 use Rattle.cv_top.proofs.top.do_source.Goals as goal
 
@@ -19,7 +19,7 @@ returns-clause-unbuilt g c = λ bytes net told means.
     c.do_task.ensures.unbuilt net (subst (λ (bs : List ℕ). Means bs net) (read_whole _ _ c.in_ok-bytes.bytes.items bytes told.0 read.0.given read.0.ended ∙ sym c.as_slice.ensures.value) means)
 
 pub returns-clause-faulty : goal.returns-clause-faulty
-returns-clause-faulty g c = λ bytes script fault told spells has.
+returns-clause-faulty g c = λ bytes fault told has.
     let read = c.in_ok-bytes.ensures in
     let same = read_whole _ _ c.in_ok-bytes.bytes.items bytes told.0 read.0.given read.0.ended ∙ sym c.as_slice.ensures.value in
-    c.do_task.ensures.faulty script fault (subst (λ (bs : List ℕ). SpellsScript bs script) same spells) (subst (λ (bs : List ℕ). HasScriptFault bs script.items fault) same has)
+    c.do_task.ensures.faulty fault (subst (λ (bs : List ℕ). HasFault bs fault) same has)
