@@ -1,3 +1,9 @@
-pub mod Frames
+pub mod Arguments
+pub mod Held
 pub mod Lists
+pub mod Members
+pub mod Ones
 pub mod Readers
+pub mod Shapes
+pub mod Stands
+pub mod Wholes

@@ -7,7 +7,9 @@ use Rattle.cv_token.specs.declared.pairs.Pair.{Pair}
 use Rattle.cv_token.specs.declared.token.Token.{Token}
 use Rattle.cv_token.specs.declared.token.Token.TheVariants as token
 use Rattle.cv_queue.specs.declared.reader.Reader.{Reader}
+use Rattle.cv_queue.specs.declared.reader.Subscription.{Subscription}
 use Rattle.cv_queue.specs.Ports.{OutView}
+use Rattle.cv_kinds.specs.declared.network.ActorSpec.{ActorSpec}
 use Rattle.cv_kinds.specs.Table.{line_of}
 use Rattle.cv_protocol.specs.Actors.{StateView}
 use Rattle.cv_protocol.specs.declared.state.Hint.{Hint}
@@ -55,6 +57,10 @@ inlet_tree (Some i) =
 abbrev pub reader_tree : Reader → Token
 reader_tree r = token.List (conn_tree r.conn ∷ actor_tree r.consumer ∷ number r.acked ∷ [])
 
+-- the same of a reader to be
+abbrev pub subscription_tree : Subscription → Token
+subscription_tree s = token.List (conn_tree s.conn ∷ actor_tree s.consumer ∷ number s.acked ∷ [])
+
 -- the most readers of a port that travels; the text of more is longer than any frame
 unfoldable pub most_readers : ℕ
 most_readers = 65535
@@ -66,6 +72,10 @@ out_tree o =
 
 abbrev pub hint_tree : Hint → Token
 hint_tree h = token.List (actor_tree h.actor ∷ number h.attempt ∷ number h.node ∷ [])
+
+-- path, kind and arguments of an actor
+abbrev pub spec_trees : ActorSpec → Token × (Token × Token)
+spec_trees s = (word s.path, (word (line_of s.kind).name, token.List s.args))
 
 -- format, path, kind, arguments, slots, wait, rule (null: nothing is asked), inports, outports, hints
 abbrev pub state_tree : StateView → Token

@@ -1,0 +1,36 @@
+-- Arguments of a kind.
+use Rattle.std.proofs.Common.{◌≡◌, ◌≢◌, ℕ, Bool, true, false, ◌&&◌, List, [], ◌∷◌, length, Some, refl, sym, ap, ◌∙◌, arith}
+use Rattle.cv_token.specs.declared.token.Token.{Token}
+use Rattle.cv_token.specs.declared.token.Token.TheVariants as tree
+use Rattle.cv_behave.specs.Values.{has_fit}
+use Rattle.cv_kinds.specs.Sorts.{are_arguments, is_of}
+use Rattle.cv_kinds.specs.Table.{Parameter, line_of}
+use Rattle.cv_kinds.specs.Names.{all_kinds, first_named}
+use Rattle.cv_kinds.specs.declared.network.ActorSpec.{ActorSpec}
+use Rattle.cv_kinds.proofs.Lines.{itself}
+use Rattle.cv_frame.specs.Trees.{spec_trees, word}
+use Rattle.cv_frame.proofs.Shapes.{same_list}
+
+one_word : (s r : List ℕ) → word s ≡ word r → s ≡ r
+one_word s r e = cc
+
+never : (a b : Bool) → (a && (b && false)) ≡ false
+never true true = refl
+never true false = refl
+never false b = refl
+
+-- arguments are as many as the parameters
+pub uneven : (ps : List Parameter) (ts : List Token) → length ps ≢ length ts → are_arguments ps ts ≡ false
+uneven [] [] ne = absurd (omega arith)
+uneven [] (t ∷ ts) ne = refl
+uneven (p ∷ ps) [] ne = refl
+uneven (p ∷ ps) (t ∷ ts) ne = rw (uneven ps ts (omega arith)) (never (has_fit t) (is_of p.sort t))
+
+-- a path, a kind and arguments have trees of their own
+pub one_spec : (s r : ActorSpec) → spec_trees s ≡ spec_trees r → s ≡ r
+one_spec s r e =
+    let path : s.path ≡ r.path = one_word s.path r.path (ap (λ p. p.0) e) in
+    let name : (line_of s.kind).name ≡ (line_of r.kind).name = one_word _ _ (ap (λ p. p.1.0) e) in
+    let kind : s.kind ≡ r.kind = let k : Some s.kind ≡ Some r.kind = sym (itself s.kind) ∙ ap (first_named all_kinds) name ∙ itself r.kind in cc in
+    let args : s.args ≡ r.args = same_list (tree.List s.args) s.args r.args refl (ap (λ p. p.1.1) e) in
+    λ i. record { path = path i; kind = kind i; args = args i }

@@ -1,0 +1,36 @@
+//! States and frames out of their one text.
+
+ghost use Rattle.std.specs.Prelude.{◌≡◌, IfOk};
+ghost use Rattle.cv_token.specs.Spells.{Spells};
+ghost use Rattle.cv_frame.specs.Texts.{frame_spelling, state_spelling};
+ghost use Rattle.cv_frame.specs.Values.{IsFrame, IsState};
+
+use crate::frames::frame_of;
+use crate::states::state_of;
+use cv_protocol::{ActorState, Frame};
+use cv_token::{ActorId, OutOfMemory, read_spelled};
+use std::alloc::Global;
+
+/// The state of that actor whose text the bytes are; None exactly where they are the text of no state that travels.
+pub fn state_read(
+    alloc: Global,
+    actor: ActorId,
+    bytes: &[u8],
+) -> Result<Option<ActorState>, OutOfMemory>
+    ensures { IfOk result (Spells (λ s. IsState s × (s.actor.id ≡ actor)) state_spelling bytes.now) }
+{
+    let Some(tree) = read_spelled(alloc, bytes)? else {
+        return Ok(None);
+    };
+    state_of(alloc, actor, &tree)
+}
+
+/// The frame whose text the bytes are; None exactly where they are the text of no frame that travels.
+pub fn frame_read(alloc: Global, bytes: &[u8]) -> Result<Option<Frame>, OutOfMemory>
+    ensures { IfOk result (Spells IsFrame frame_spelling bytes.now) }
+{
+    let Some(tree) = read_spelled(alloc, bytes)? else {
+        return Ok(None);
+    };
+    frame_of(alloc, &tree)
+}
