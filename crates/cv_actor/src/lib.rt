@@ -4,6 +4,7 @@
 pub mod act;
 pub mod finding;
 mod firing;
+mod joined;
 pub mod law;
 pub mod live;
 mod looking;

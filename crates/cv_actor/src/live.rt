@@ -1,10 +1,10 @@
 //! `Live`: an actor that lives at a node.
 
-ghost use Rattle.std.specs.Prelude.{◌≡◌, ◌+◌, ◌^◌, ◌<◌, ◌≤◌, length, slice_get, true, IsTrue, IfOk, OnOk, OnErr, IfSome, IsSomeAnd};
+ghost use Rattle.std.specs.Prelude.{◌≡◌, ◌+◌, ◌^◌, ◌<◌, ◌≤◌, length, slice_get, if◌then◌else◌, true, IsTrue, IfOk, OnOk, OnErr, IfSome, IsSomeAnd};
 ghost use Rattle.std.specs.Option.{option_copied, option_copied_mut, option_map};
 ghost use Rattle.std.specs.Borrow.{sem};
 ghost use Rattle.cv_protocol.specs.Poll.{look, Fires, poll, fired, row_at, all_outs_fit, live_fits};
-ghost use Rattle.cv_protocol.specs.Rows.{inlet_at, seat_of, spot_of};
+ghost use Rattle.cv_protocol.specs.Rows.{any_feeds, any_is_read, inlet_at, seat_of, spot_of};
 ghost use Rattle.cv_protocol.specs.NodeState.{rewound_towards};
 ghost use Rattle.cv_protocol.specs.Travel.{capture, first_due, new_live, restore};
 ghost use Rattle.cv_actor.specs.Ends.{spot_in};
@@ -14,6 +14,7 @@ ghost use Rattle.cv_actor.specs.Polled.{seen, foreseen, peeked, IsNew};
 use crate::finding;
 use crate::finding::Spot;
 use crate::firing::{copied_heads, read, take_needed, write_given};
+use crate::joined::{feeds_any, reads_any};
 use crate::looking::{first_crowded, first_short, first_unread, guard_head};
 use crate::making::{new_inlets, new_outs};
 use crate::numbers::{LIMIT, all_fit_taken, all_outs_fit, have_numbers};
@@ -279,6 +280,13 @@ impl Live {
         ensures { result ≡ option_map spot_in (spot_of conn 0 self.now.actor.outs) }
     {
         finding::spot_of(conn, self.outs())
+    }
+
+    /// Whether that actor feeds this one, or reads from it.
+    pub fn is_joined(&self, actor: ActorId) -> bool
+        ensures { result ≡ (if any_feeds actor self.now.actor.ins then true else any_is_read actor self.now.actor.outs) }
+    {
+        feeds_any(actor, self.ins()) || reads_any(actor, self.outs())
     }
 
     /// The first inport that the connection feeds.
