@@ -1,5 +1,5 @@
 -- Room for what an action gives that fires, and the number of ports.
-use Rattle.std.proofs.Common.{◌≡◌, ℕ, zero, suc, ◌+◌, ◌<◌, ◌≤◌, Bool, true, false, ◌&&◌, nat_le, nat_lt, List, [], ◌∷◌, length, drop, slice_get, Option, Some, None, option_to_list, unwrap_or, refl, ap, sym, ◌∙◌, subst, arith}
+use Rattle.std.proofs.Common.{◌≡◌, ℕ, zero, suc, ◌+◌, ◌<◌, ◌≤◌, Bool, true, false, ◌&&◌, nat_le, nat_lt, List, [], ◌∷◌, length, map, drop, slice_get, Option, Some, None, option_to_list, unwrap_or, refl, ap, sym, ◌∙◌, subst, arith}
 use Rattle.std.proofs.lemmas.Bool.{and_parts}
 use Rattle.std.proofs.lemmas.Bool.Decides.{nat_tests}
 use Rattle.std.proofs.lemmas.List.{drop-drop}
@@ -10,8 +10,9 @@ use Rattle.cv_kinds.specs.declared.kind.Kind.{Kind}
 use Rattle.cv_kinds.specs.KindRow.{row_of}
 use Rattle.cv_kinds.proofs.Promises.{acts_within, gives_tokens}
 use Rattle.cv_kinds.proofs.Lines.{few_ports}
-use Rattle.cv_protocol.specs.Actors.{LiveState}
+use Rattle.cv_protocol.specs.Actors.{LiveState, StateView}
 use Rattle.cv_protocol.specs.Poll.{limit, Fires, all_inlets_fit, all_outs_fit, first_crowded, first_given, fired, inputs, live_fits, look, row_at, with_given, with_token, without_needed}
+use Rattle.cv_protocol.specs.Travel.{restore, rewound_out}
 use Rattle.cv_actor.specs.Room.{has_room, have_numbers, takes}
 use Rattle.cv_protocol.specs.Actors.{IsShaped}
 use Rattle.cv_actor.proofs.Sights.{less, not_crowded, ready}
@@ -111,3 +112,15 @@ pub fits_by : (l : LiveState) (now action : ℕ) → look l now action ≡ Fires
 fits_by l now action fires due attempt ins =
     let tests : (nat_lt (fired l now action).due limit && nat_lt l.attempt limit) ≡ true = both _ _ (true_if _ _ due) (true_if _ _ attempt) in
     numbers_fired l now action _ fires ∙ sym (all_of (nat_lt (fired l now action).due limit && nat_lt l.attempt limit) _ _ tests ins)
+
+-- 3. An actor that travelled
+
+rewound_fit : (outs : List OutView) → all_outs_fit (map rewound_out outs) ≡ all_outs_fit outs
+rewound_fit [] = refl
+rewound_fit (o ∷ outs) = ap (λ (b : Bool). nat_lt o.write limit && b) (rewound_fit outs)
+
+-- where all its numbers but those of the outports fit, they decide
+pub restored_fits : (s : StateView) (attempt now : ℕ) → now + s.wait < limit → attempt < limit → all_inlets_fit s.actor.ins ≡ true → all_outs_fit s.actor.outs ≡ live_fits (restore s attempt now)
+restored_fits s attempt now due low ins =
+    let tests : (nat_lt (now + s.wait) limit && nat_lt attempt limit) ≡ true = both _ _ (true_if _ _ due) (true_if _ _ low) in
+    sym (rewound_fit s.actor.outs) ∙ sym (all_of (nat_lt (now + s.wait) limit && nat_lt attempt limit) _ _ tests ins)

@@ -19,6 +19,6 @@ pub use act::{Act, Polled};
 pub use finding::{Spot, reader_among};
 pub use law::comes_back_as_it_left;
 pub use live::{Live, capture, restore};
-pub use numbers::LIMIT;
+pub use numbers::{LIMIT, fits_restored};
 pub use outlook::Outlook;
 pub use rewinding::Rewinding;

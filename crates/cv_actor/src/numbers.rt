@@ -1,14 +1,15 @@
 //! Whether an actor's numbers stay below 2^62.
 
-ghost use Rattle.std.specs.Prelude.{◌≡◌, ◌<◌, ◌≤◌, length, None};
+ghost use Rattle.std.specs.Prelude.{◌≡◌, ◌^◌, ◌<◌, ◌≤◌, length, None};
 ghost use Rattle.cv_behave.specs.KindRow.{needed, given};
 ghost use Rattle.cv_kinds.specs.KindRow.{row_of};
-ghost use Rattle.cv_protocol.specs.Poll.{held_in, first_short, taken_from, without_needed, inlet_fits, all_inlets_fit, all_outs_fit};
+ghost use Rattle.cv_protocol.specs.Poll.{held_in, first_short, taken_from, without_needed, inlet_fits, all_inlets_fit, all_outs_fit, live_fits};
+ghost use Rattle.cv_protocol.specs.Travel.{restore};
 ghost use Rattle.cv_actor.specs.Room.{have_numbers};
 
 use cv_behave::Behave;
 use cv_kinds::{ActorSpec, Kind};
-use cv_protocol::Inlet;
+use cv_protocol::{ActorState, Inlet};
 use cv_queue::OutPort;
 
 /// Every number of a node stays below this one.
@@ -65,4 +66,40 @@ pub(crate) fn all_outs_fit(outs: &[OutPort]) -> bool
         }
     }
     true
+}
+
+/// Whether an inport's numbers are below the limit.
+fn inlet_fits(inlet: &Option<Inlet>) -> bool
+    ensures { result ≡ inlet_fits inlet.now }
+{
+    match inlet {
+        Some(inlet) => inlet.port.taken() < LIMIT && inlet.port.received() < LIMIT,
+        None => true,
+    }
+}
+
+/// Whether those of all inports are.
+fn all_inlets_fit(ins: &[Option<Inlet>]) -> bool
+    ensures { result ≡ all_inlets_fit ins.now }
+{
+    for inlet in ins {
+        if !inlet_fits(inlet) {
+            return false;
+        }
+    }
+    true
+}
+
+/// Whether all numbers of an actor that travelled are below the limit once it lives again by this attempt.
+pub fn fits_restored(state: &ActorState, attempt: u64, now: u64) -> bool
+    requires { now < 2 ^ 62 }
+    ensures { result ≡ live_fits (restore state.now attempt now) }
+{
+    if state.wait() >= LIMIT - now || attempt >= LIMIT {
+        return false;
+    }
+    if !all_inlets_fit(state.ins()) {
+        return false;
+    }
+    all_outs_fit(state.outs())
 }
