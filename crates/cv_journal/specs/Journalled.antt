@@ -1,0 +1,34 @@
+-- A node with its journal, and what one step does to both.
+use Rattle.std.specs.Prelude.{◌≡◌, List, [], ◌∷◌, ◌++◌, Some, refl}
+use Rattle.std.specs.Coded.{Coded, code_by, coded×, coded_list}
+use Rattle.cv_protocol.specs.declared.event.Entry.{Entry}
+use Rattle.cv_protocol.specs.contracts.event.Entry as entry
+use Rattle.cv_protocol.specs.declared.event.Event.{Event}
+use Rattle.cv_protocol.specs.declared.event.Sent.{Sent}
+use Rattle.cv_protocol.specs.NodeState.{NodeState, node_code}
+use Rattle.cv_protocol.specs.NodeRow.{row, stamp_of}
+use Rattle.cv_protocol.specs.Journals.{replay}
+use Rattle.cv_state.specs.Steps.{LeadsTo}
+
+-- the state before the first entry, the state now, and the entries between them
+pub record Journalled : Type 0 where
+  pub base : NodeState
+  pub state : NodeState
+  pub entries : List Entry
+
+abbrev pub journalled_code : Coded Journalled
+journalled_code =
+    code_by (NodeState × (NodeState × List Entry)) (coded× node_code (coded× node_code (coded_list entry.the_row.coded))) (λ j. (j.base, (j.state, j.entries))) (λ p. record { base = p.0; state = p.1.0; entries = p.1.1 }) (λ _. refl)
+
+-- the state is what the entries leave of the base, each a row of the state before it, with the stamp of that row
+pub record IsReplay (base state : NodeState) (entries : List Entry) : Type 0 where
+  pub replays : replay base entries ≡ Some state
+
+abbrev pub entry_of_row : NodeState → Event → Entry
+entry_of_row s e = record { stamp = stamp_of s e; event = e }
+
+-- one step: a row of the state, which sends these frames, and its entry at the journal's end
+pub record Steps (old : Journalled) (e : Event) (sent : Sent) (new : Journalled) : Type 0 where
+  pub does : LeadsTo (row old.state e) new.state sent
+  pub appends : new.entries ≡ old.entries ++ entry_of_row old.state e ∷ []
+  pub based : new.base ≡ old.base

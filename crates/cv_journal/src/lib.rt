@@ -1,0 +1,6 @@
+//! One node with its journal: each step is a row of its state and an entry.
+#![tactic(auto)]
+
+pub mod node;
+
+pub use node::Node;

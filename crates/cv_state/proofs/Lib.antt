@@ -1,0 +1,11 @@
+pub mod Comings
+pub mod Deploys
+pub mod Destroys
+pub mod Ends
+pub mod Keeps
+pub mod Leaves
+pub mod Local
+pub mod Outlets
+pub mod Raises
+pub mod Seats
+pub mod Ways

@@ -1,0 +1,9 @@
+pub mod Answers
+pub mod Arrivals
+pub mod Deploying
+pub mod Destroying
+pub mod Kept
+pub mod Leaving
+pub mod Outlets
+pub mod Steps
+pub mod Ways

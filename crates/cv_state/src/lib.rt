@@ -1,0 +1,29 @@
+//! What a node is, and the rows of the node table that change it.
+#![tactic(auto)]
+
+mod acks;
+mod apply;
+mod arriving;
+mod deliver;
+mod deploy;
+mod destroy;
+mod frames;
+mod hints;
+mod joining;
+mod judging;
+pub mod known;
+mod leaving;
+pub mod moves;
+mod near;
+mod outlet;
+mod pass;
+mod ports;
+mod releasing;
+mod stamps;
+pub mod state;
+mod tokens;
+mod verdicts;
+
+pub use known::Known;
+pub use moves::Moves;
+pub use state::State;
