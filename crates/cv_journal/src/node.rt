@@ -10,9 +10,9 @@ ghost use Rattle.cv_journal.specs.Journalled.{IsReplay, Steps};
 ghost use Rattle.cv_journal.specs.Polls.{HasPolled, poll_cause};
 
 use cv_actor::{Live, Outlook, Polled};
-use cv_state::State;
 use cv_protocol::{Entry, Event, Journal, Location, Sent, StepRefusal};
 use cv_rules::NodeSpec;
+use cv_state::State;
 use cv_token::{ActorId, OutOfMemory};
 use std::alloc::Global;
 use std::marker::Model;

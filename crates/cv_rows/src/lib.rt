@@ -66,7 +66,7 @@ mod tests {
         text: &'static str,
     }
 
-    const ROWS: [Row; 23] = [
+    const ROWS: [Row; 25] = [
         Row {
             words: &["run"],
             script: CONSTANT,
@@ -173,6 +173,20 @@ mod tests {
             status: 0,
             text: "p 1\np 2\np 3\nfirings 9\nend quiescent\n",
         },
+        // Several readers of one outport each get every token.
+        Row {
+            words: &["run"],
+            script: "a:std.Constant(data=1)b:io.Print()c:io.Print()a.token>b.token, c.token",
+            status: 0,
+            text: "b 1\nc 1\nfirings 3\nend quiescent\n",
+        },
+        // A sum that is fed back through a first token.
+        Row {
+            words: &["run"],
+            script: "one : std.Constant(data=1, n=3)\nini : flow.Init(data=0)\nadd : math.Add()\nsnk : io.Print()\none.token > add.a\nini.out > add.b\nadd.result > ini.in, snk.token\n",
+            status: 0,
+            text: "snk 1\nsnk 2\nsnk 3\nfirings 13\nend quiescent\n",
+        },
         Row {
             words: &["run", "--nodes", "2"],
             script: CONSTANT,
@@ -211,6 +225,21 @@ mod tests {
         },
     ];
 
+    // Two sources that never end, each with a print of its own: neither keeps the other from printing.
+    #[test]
+    fn endless_sources_take_turns(rt: HostRuntime) -> Result<(), Fail> {
+        let alloc = rt.alloc();
+        let script = "a:std.Constant(data=1,n=-1)b:std.Constant(data=2,n=-1)p:io.Print()q:io.Print()a.token>p.token b.token>q.token";
+        let bytes = Vec::from_slice(alloc, script.as_bytes())?;
+        let mut source = MemSource::new(bytes, 7, Vec::new(alloc));
+        let mut sink = MemSink::new(alloc, 5, Vec::new(alloc));
+        let words = ["run", "--firings", "20"];
+        assert_eq!(rt; status(&rt, alloc, &words, &mut source, &mut sink)?, 0);
+        assert!(rt; sink.bytes().starts_with("p 1\n".as_bytes()));
+        assert!(rt; sink.bytes().ends_with("q 2\nfirings 20\nend spent\n".as_bytes()));
+        Ok(())
+    }
+
     #[test]
     fn rows_have_their_texts(rt: HostRuntime) -> Result<(), Fail> {
         let alloc = rt.alloc();
@@ -228,7 +257,7 @@ mod tests {
     }
 
     /// Scripts of no meaning, with the place and the code of each.
-    const REFUSED: [(&str, &str); 53] = [
+    const REFUSED: [(&str, &str); 51] = [
         // No lexemes.
         ("a : std.Constant(data=\"x", "1:23 OpenText"),
         (
@@ -344,15 +373,6 @@ mod tests {
         (
             "voidport > a.token apply a : r a : io.Print()",
             "1:20 Unbuilt",
-        ),
-        // One node does not run several readers of one outport yet.
-        (
-            "a:std.Constant(data=1)b:io.Print()c:io.Print()a.token>b.token a.token>c.token",
-            "1:1 Unbuilt",
-        ),
-        (
-            "a:std.Constant(data=1)b:io.Print()c:io.Print()a.token>b.token, c.token",
-            "1:1 Unbuilt",
         ),
     ];
 

@@ -3,7 +3,7 @@
 use crate::answer;
 use crate::reading::Reading;
 use cv_io::{MemSink, MemSource};
-use cv_node::Event;
+use cv_protocol::Event;
 use cv_top::End;
 use std::alloc::{AllocError, Global};
 use std::fmt::Write;

@@ -3,17 +3,15 @@ use Rattle.std.proofs.Common.{◌≡◌, inl, inr, ℕ, ◌≤◌, List, ◌++�
 use Rattle.std.specs.declared.option.Option.{Option}
 use Rattle.std.specs.Io.KnownBytes.{Consumes, IsAtEnd}
 use Rattle.cv_deploy.specs.declared.fault.Code.{Code}
-use Rattle.cv_deploy.specs.declared.fault.Code.TheVariants as code
 use Rattle.cv_deploy.specs.declared.fault.Fault.{Fault}
 use Rattle.cv_deploy.specs.declared.fault.NoNetwork.{NoNetwork}
 use Rattle.cv_deploy.specs.declared.fault.NoNetwork.TheVariants as none
-use Rattle.cv_deploy.specs.Faults.{Gives, IsCaused, Means, Refuses, first_fault}
+use Rattle.cv_deploy.specs.Faults.{Gives, IsCaused, Means, Refuses}
 use Rattle.cv_kinds.specs.Net.{Net}
 use Rattle.cv_kinds.specs.Wired.{IsWired}
-use Rattle.cv_node.specs.declared.event.Record.{Record}
-use Rattle.cv_node.specs.declared.run.Stop.TheVariants as stop
+use Rattle.cv_protocol.specs.declared.event.Record.{Record}
+use Rattle.cv_alone.specs.declared.alone.Stop.TheVariants as stop
 use Rattle.cv_top.specs.declared.end.Answer.{Answer}
-use Rattle.cv_top.specs.declared.words.Command.{Command}
 use Rattle.cv_top.specs.declared.words.Command.TheVariants.{Script}
 use Rattle.cv_top.specs.declared.words.Task.{Task}
 use Rattle.cv_top.specs.declared.words.Task.TheVariants as task
@@ -22,7 +20,7 @@ use Rattle.cv_top.specs.declared.end.End.TheVariants as end
 use Rattle.cv_top.specs.declared.end.Refusal.{Refusal}
 use Rattle.cv_top.specs.declared.end.Refusal.TheVariants as refusal
 use Rattle.cv_top.specs.Answers.{IsSuccess, IsTaskDecided, IsDecided, IsTold, IsAnswered}
-use Rattle.cv_top.specs.Causes.{IsCause, EndsAs, IsBuilt, IsUnbuiltFor, IsRefusalOf, DoneOrFailed, FaultOrFailed, UnlessRefused, RefusedBy, refusal_of, end_of, line_of, script_limit}
+use Rattle.cv_top.specs.Causes.{IsCause, EndsAs, IsRefusalOf, DoneOrFailed, FaultOrFailed, refusal_of, end_of, line_of, script_limit}
 use Rattle.cv_top.specs.Devices.{Reading, Writing, Gave}
 use Rattle.cv_top.specs.Ran.{IsDoneFor, IsEmptyRecord, IsRight}
 use Rattle.cv_top.specs.Words.{command_of}
@@ -40,7 +38,7 @@ refusal_told words r w x e merged m cause empty told =
 
 -- where the line of a script's fault wants memory, want of memory has its cause
 pub memory_cause : (words : List (List ℕ)) (r : Reading) (line col : ℕ) (c : Code) → IsCause words r (refusal.Script line col c) → IsCause words r refusal.OutOfMemory
-memory_cause words r line col c (t, asked, (bytes, gave, short, has)) = ((Script t, asked), (bytes, gave.given, short), gave.steady)
+memory_cause words r line col c ((t, asked), (bytes, gave, short, has)) = ((Script t, asked), (bytes, gave.given, short), gave.steady)
 
 -- where each end of a refusal that may come has a property, the end that came has it
 pub by_end : (P : End → Type 0) (x : Refusal) (e : End) → P (end_of x) → P end.OutOfMemory → P end.WriteFault → EndsAs x e → P e
@@ -72,42 +70,15 @@ pub done_for : (t : Task) (bytes : List ℕ) (net : Net) (x : Result Answer Refu
 done_for t bytes net (Ok a) means wired right = record { net = net; means = means; wired = wired; right = right }
 done_for t bytes net (Err x) means wired right = tt
 
-cause_of : (t : Task) (bytes : List ℕ) (net : Net) (x : Refusal) → Means bytes net → IsUnbuiltFor t net x → IsRefusalOf t bytes x
-cause_of t bytes net (refusal.Script line col c) means un = inr (net, means, un.0, un.1)
-cause_of t bytes net refusal.OutOfMemory means un = tt
-cause_of t bytes net refusal.Usage means un = absurd un
-cause_of t bytes net refusal.ReadFault means un = absurd un
-cause_of t bytes net refusal.TooLong means un = absurd un
-
-pub cause_for : (t : Task) (bytes : List ℕ) (net : Net) (x : Result Answer Refusal) → Means bytes net → IfErr x (IsUnbuiltFor t net) → IfErr x (IsRefusalOf t bytes)
-cause_for t bytes net (Ok a) means un = tt
-cause_for t bytes net (Err x) means un = cause_of t bytes net x means un
-
-pub built_done : (t : Task) (net : Net) (x : Result Answer Refusal) → IfErr x (IsUnbuiltFor t net) → IsBuilt t net → UnlessRefused x DoneOrFailed
-built_done t net (Ok a) un built = tt
-built_done t net (Err (refusal.Script line col c)) un built = absurd (un.0 built)
-built_done t net (Err refusal.OutOfMemory) un built = tt
-built_done t net (Err refusal.Usage) un built = absurd un
-built_done t net (Err refusal.ReadFault) un built = absurd un
-built_done t net (Err refusal.TooLong) un built = absurd un
-
-pub unbuilt_told : (t : Task) (net : Net) (x : Result Answer Refusal) → IfOk x (λ a. IsBuilt t net) → IfErr x (IsUnbuiltFor t net) → (IsBuilt t net → ⊥) → RefusedBy x (FaultOrFailed (first_fault code.Unbuilt))
-unbuilt_told t net (Ok a) built un not_built = absurd (not_built built)
-unbuilt_told t net (Err (refusal.Script line col c)) built un not_built = un.1
-unbuilt_told t net (Err refusal.OutOfMemory) built un not_built = tt
-unbuilt_told t net (Err refusal.Usage) built un not_built = absurd un
-unbuilt_told t net (Err refusal.ReadFault) built un not_built = absurd un
-unbuilt_told t net (Err refusal.TooLong) built un not_built = absurd un
-
 -- bytes that mean something are refused by want of memory alone
 pub memory_alone : (P : End → Type 0) (e : NoNetwork) (net : Net) → P end.OutOfMemory → Gives {X = Net} (Err e) net → P (end_of (refusal_of e))
 memory_alone P (none.Script fault) net memory is = absurd is
 memory_alone P none.OutOfMemory net memory is = memory
 
 -- what bytes that mean nothing are refused by is a cause
-pub told_cause : (t : Task) (bytes : List ℕ) (e : NoNetwork) → IsCaused bytes e → IsRefusalOf t bytes (refusal_of e)
-told_cause t bytes (none.Script fault) is = inl is
-told_cause t bytes none.OutOfMemory is = tt
+pub told_cause : (bytes : List ℕ) (e : NoNetwork) → IsCaused bytes e → IsRefusalOf bytes (refusal_of e)
+told_cause bytes (none.Script fault) is = is
+told_cause bytes none.OutOfMemory is = tt
 
 -- bytes with a fault are refused by it, or by want of memory
 pub fault_told : (e : NoNetwork) (fault : Fault) → Refuses {X = Net} (Err e) fault → FaultOrFailed fault (end_of (refusal_of e))
@@ -124,7 +95,7 @@ read_whole (Some xs) (Some ys) read bytes told given ended = let same : xs ≡ b
 
 -- a script that was read and whose task was done, or refused
 pub task_decided : (t : Task) (r : Reading) (bytes : List ℕ) (x : Result Answer Refusal) → Gave r bytes → length bytes ≤ script_limit
-    → IfOk x (λ a. IsDoneFor t bytes a.end a.merged (string_bytes a.text)) → IfErr x (IsRefusalOf t bytes) → IsTaskDecided t r x
+    → IfOk x (λ a. IsDoneFor t bytes a.end a.merged (string_bytes a.text)) → IfErr x (IsRefusalOf bytes) → IsTaskDecided t r x
 task_decided t r bytes (Ok answer) gave short done refused = (bytes, gave, done)
 task_decided t r bytes (Err (refusal.Script line col c)) gave short done refused = (bytes, gave, short, refused)
 task_decided t r bytes (Err refusal.OutOfMemory) gave short done refused = ((bytes, gave.given, short), gave.steady)
@@ -135,16 +106,8 @@ task_decided t r bytes (Err refusal.TooLong) gave short done refused = absurd re
 -- it is what the words and the source are answered with
 pub task_answered : (words : List (List ℕ)) (r : Reading) (t : Task) (x : Result Answer Refusal) → command_of words ≡ Some (Script t) → IsTaskDecided t r x → IsDecided words r x
 task_answered words r t (Ok answer) asked (bytes, gave, done) = inl (record { task = t; asked = asked; bytes = bytes; gave = gave; done = done })
-task_answered words r t (Err (refusal.Script line col c)) asked is = (t, asked, is)
+task_answered words r t (Err (refusal.Script line col c)) asked is = ((t, asked), is)
 task_answered words r t (Err refusal.ReadFault) asked is = ((t, asked), is.0, is.1)
 task_answered words r t (Err refusal.TooLong) asked is = ((t, asked), is.0, is.1)
 task_answered words r t (Err refusal.OutOfMemory) asked is = ((Script t, asked), is.0, is.1)
 task_answered words r t (Err refusal.Usage) asked is = absurd is
-
-asks : Command → Option Command
-asks c = Some c
-
--- words ask for one task
-pub one_task : (asked : Option Command) (t u : Task) → asked ≡ Some (Script t) → asked ≡ Some (Script u) → t ≡ u
-unfolding asks
-one_task asked t u first second = let same : asks (Script t) ≡ Some (Script u) = sym first ∙ second in cc

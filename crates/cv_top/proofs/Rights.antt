@@ -1,41 +1,123 @@
--- A record of one node of a wired network keeps its streams, and the text is that of its firings.
-use Rattle.std.proofs.Common.{◌≡◌, ℕ, List, [], ◌∷◌, ◌++◌, map, take, codes, Some, refl, ap, sym, ◌∙◌, subst, append-nil}
+-- A record of one node of a wired network keeps owners and streams, and the text is that of its firings.
+use Rattle.std.proofs.Common.{◌≡◌, ℕ, ◌==◌, ◌&&◌, Bool, true, false, is_some, if◌then◌else◌, List, [], ◌∷◌, ◌++◌, Some, None, refl, ap, sym, ◌∙◌, subst, append-nil}
+use Rattle.std.proofs.lemmas.Bool.{eqb-true}
+use Rattle.cv_kinds.specs.declared.network.ActorSpec.{ActorSpec}
+use Rattle.cv_kinds.specs.declared.kind.Kind.TheVariants as kind
+use Rattle.cv_flow.specs.declared.kind.FlowKind.TheVariants as flow
 use Rattle.cv_kinds.specs.Net.{Net}
-use Rattle.cv_kinds.specs.Wired.{IsWired, HasOneReader}
-use Rattle.cv_node.specs.declared.event.Entry.{Entry}
-use Rattle.cv_node.specs.declared.event.Record.{Record}
-use Rattle.cv_node.specs.declared.run.Stop.{Stop}
-use Rattle.cv_node.specs.NodeRow.{NodeState, opening, replay}
-use Rattle.cv_node.specs.Recorded.{step_of, first_entry, IsOneNodeRun}
-use Rattle.cv_merge.specs.Streams.{firing_of, firings, deploys, StreamsInOrder}
-use Rattle.cv_merge.proofs.Runs.{every_run}
+use Rattle.cv_kinds.specs.Wired.{IsWired}
+use Rattle.cv_protocol.specs.declared.event.Entry.{Entry}
+use Rattle.cv_protocol.specs.declared.event.Event.{Event}
+use Rattle.cv_protocol.specs.declared.event.Event.TheVariants as event
+use Rattle.cv_protocol.specs.declared.event.Record.{Record}
+use Rattle.cv_protocol.specs.declared.event.Step.{Step}
+use Rattle.cv_protocol.specs.NodeState.{NodeState, opening}
+use Rattle.cv_protocol.specs.Journals.{got_frame, replay, IsLocalRun}
+use Rattle.cv_alone.specs.declared.alone.Stop.{Stop}
+use Rattle.cv_alone.specs.Going.{are_own, is_own}
+use Rattle.cv_alone.specs.Recorded.{IsOneNodeRun, first_entry, first_spec, only_first}
+use Rattle.cv_alone.specs.Resting.{run_app}
+use Rattle.cv_merged.specs.Laws.{AreLocalRuns, GotOnlySent}
+use Rattle.cv_merged.proofs.Bridge.{sent_before}
+use Rattle.cv_handover.specs.Runs.{IsRun}
+use Rattle.cv_handover.proofs.Alone.{each_opened}
+use Rattle.cv_handover.proofs.Records.{owners_opened}
 use Rattle.cv_solo.specs.OneRuntime.{solo}
 use Rattle.cv_top.specs.Printed.{firings_of, IsTextWhereDefined}
-use Rattle.cv_top.specs.Ran.{IsRightRun}
+use Rattle.cv_top.specs.Ran.{IsRightRun, StreamsInOrder, openings}
 
--- the firings of the steps are those of the entries
-firings_recorded : (entries : List Entry) → firings_of (map step_of entries) ≡ firings entries
-firings_recorded [] = refl
-firings_recorded (e ∷ es) = ap (λ fs. firing_of e.event ++ fs) (firings_recorded es)
+-- 1. The journals of a run are local runs
 
--- every beginning of a journal that begins with the deployment of a wired network keeps its streams
-keeps_streams : (net : Net) (entries begins rest : List Entry) (s : NodeState) → IsWired net → HasOneReader net → take 1 entries ≡ first_entry net ∷ [] → replay opening entries ≡ Some s → entries ≡ begins ++ rest → StreamsInOrder net begins
-keeps_streams net [] begins rest s wired single first done split = cc
-keeps_streams net (e ∷ es) begins rest s wired single first done split =
-    let same : e ≡ deploys (codes "run") net = cc in
-    let Done : Entry → Type 0 = λ x. replay opening (x ∷ es) ≡ Some s in
-    let Split : Entry → Type 0 = λ x. x ∷ es ≡ begins ++ rest in
-    every_run net (codes "run") es begins rest s wired single (subst Done same done) (subst Split same split)
+first_run : (b : Bool) (s : NodeState) (entries : List Entry) → (b ≡ true → IsLocalRun s entries) → IsLocalRun s (if b then entries else [])
+first_run true s entries run = run refl
+first_run false s entries run = refl
 
-pub right_run : (net : Net) (most : ℕ) (s : Stop) (m : Record) (text : List ℕ) → IsWired net → HasOneReader net → IsOneNodeRun net most s m → IsTextWhereDefined net (firings_of m.entries) s text → IsRightRun net most s m text
-right_run net most s m text wired single run printed =
-    let whole = keeps_streams net run.entries run.entries [] run.state wired single run.deployed run.local_run (sym (append-nil run.entries)) in
-    let same : firings run.entries ≡ firings_of m.entries = sym (firings_recorded run.entries) ∙ ap firings_of (sym run.recorded) in
-    let defined : solo net (firings_of m.entries) ≡ Some whole.1 = ap (solo net) (sym same) ∙ whole.2.defined in
+-- 2. Nothing came
+
+own_gets_none : (e : Event) → is_own e ≡ true → got_frame e ≡ None
+own_gets_none (event.Tick now) own = refl
+own_gets_none (event.Peek a port) own = refl
+own_gets_none (event.Fire a action) own = refl
+own_gets_none (event.Pass conn) own = refl
+own_gets_none (event.Meet node attrs) own = refl
+own_gets_none (event.Deploy name net) own = refl
+own_gets_none (event.Send conn) own = refl
+own_gets_none (event.Rewind conn) own = refl
+own_gets_none (event.Freeze a to) own = refl
+own_gets_none (event.Resend a) own = refl
+own_gets_none (event.Withdraw a) own = refl
+own_gets_none (event.Hint a attempt node) own = refl
+own_gets_none (event.Destroy app) own = refl
+own_gets_none (event.Lose f) own = absurd (cc)
+own_gets_none (event.Deliver f) own = absurd (cc)
+
+both_true : (a b : Bool) → a && b ≡ true → (a ≡ true) × (b ≡ true)
+both_true true b h = (refl, h)
+both_true false b h = absurd (cc)
+
+-- a journal none of whose entries got a frame
+gets_none : (before after : List Entry) (e : Entry) (es : List Entry) → are_own es ≡ true → es ≡ before ++ e ∷ after → got_frame e.event ≡ None
+gets_none [] after e [] own is = absurd (cc)
+gets_none (b ∷ before) after e [] own is = absurd (cc)
+gets_none [] after e (x ∷ es) own is =
+    let same : x ≡ e = cc in
+    subst (λ (y : Entry). got_frame y.event ≡ None) same (own_gets_none x.event (both_true (is_own x.event) (are_own es) own).0)
+gets_none (b ∷ before) after e (x ∷ es) own is =
+    let tail : es ≡ before ++ e ∷ after = cc in
+    gets_none before after e es (both_true (is_own x.event) (are_own es) own).1 tail
+
+first_gets_none : (net : Net) (more before after : List Entry) (e : Entry) → are_own more ≡ true → first_entry net ∷ more ≡ before ++ e ∷ after → got_frame e.event ≡ None
+first_gets_none net more [] after e own is =
+    let same : first_entry net ≡ e = cc in subst (λ (y : Entry). got_frame y.event ≡ None) same refl
+first_gets_none net more (b ∷ before) after e own is =
+    let tail : more ≡ before ++ e ∷ after = cc in gets_none before after e more own tail
+
+journal_gets_none : (b : Bool) (net : Net) (more before after : List Entry) (e : Entry) → are_own more ≡ true → (if b then first_entry net ∷ more else []) ≡ before ++ e ∷ after → got_frame e.event ≡ None
+journal_gets_none true net more before after e own is = first_gets_none net more before after e own is
+journal_gets_none false net more [] after e own is = absurd (cc)
+journal_gets_none false net more (b ∷ before) after e own is = absurd (cc)
+
+got_nothing : (net : Net) (more : List Entry) → are_own more ≡ true → GotOnlySent openings (only_first (first_entry net ∷ more))
+got_nothing net more own i before after e f is got =
+    let none = journal_gets_none (1 == i) net more before after e own is in absurd (cc)
+
+-- 3. The laws hold of the record
+
+opening_at : (i : ℕ) → (1 == i) ≡ true → openings i ≡ opening first_spec
+opening_at i same = ap openings (sym (eqb-true 1 i same))
+
+local_runs : (net : Net) (most : ℕ) (s : Stop) (m : Record) (run : IsOneNodeRun net most s m) → AreLocalRuns openings (only_first (first_entry net ∷ run.more))
+local_runs net most s m run i =
+    first_run (1 == i) (openings i) (first_entry net ∷ run.more) (λ same.
+    let replays : replay (openings i) (first_entry net ∷ run.more) ≡ Some run.state = ap (λ (o : NodeState). replay o (first_entry net ∷ run.more)) (opening_at i same) ∙ run.local_run in
+    ap is_some replays)
+
+pub is_run : (net : Net) (most : ℕ) (s : Stop) (m : Record) (run : IsOneNodeRun net most s m) → IsRun openings (only_first (first_entry net ∷ run.more)) m.entries
+is_run net most s m run =
+    let local = local_runs net most s m run in
+    record {
+      record_of = run.recorded;
+      local = local;
+      sent = sent_before openings (only_first (first_entry net ∷ run.more)) m.entries local (got_nothing net run.more run.own) run.recorded;
+    }
+
+-- anybody will do where nobody is meant
+nobody : ActorSpec
+nobody = record { path = []; kind = kind.Flow flow.Identity; args = [] }
+
+streams_hold : (net : Net) (most : ℕ) (s : Stop) (m : Record) (run : IsOneNodeRun net most s m) → IsWired net → (begins rest : List Step) → m.entries ≡ begins ++ rest → StreamsInOrder net run.more begins
+streams_hold net most s m run wired begins rest split somebody =
+    each_opened (λ i. record first_spec { no = i }) somebody (only_first (first_entry net ∷ run.more)) m.entries (λ i. refl) (is_run net most s m run) begins rest run_app split wired
+
+pub right_run : (net : Net) (most : ℕ) (s : Stop) (m : Record) (text : List ℕ) → IsWired net → IsOneNodeRun net most s m → IsTextWhereDefined net (firings_of m.entries) s text → IsRightRun net most s m text
+right_run net most s m text wired run printed =
+    let whole = streams_hold net most s m run wired m.entries [] (sym (append-nil m.entries)) nobody in
+    let defined : solo net (firings_of m.entries) ≡ Some whole.runtime = whole.defined in
     record {
       run = run;
-      streams = λ begins rest split. keeps_streams net run.entries begins rest run.state wired single run.deployed run.local_run split;
-      runtime = whole.1;
+      owners = owners_opened (λ i. record first_spec { no = i }) nobody (only_first (first_entry net ∷ run.more)) m.entries (λ i. refl) (is_run net most s m run);
+      streams = streams_hold net most s m run wired;
+      runtime = whole.runtime;
       defined = defined;
-      printed = printed whole.1 defined;
+      printed = printed whole.runtime defined;
     }

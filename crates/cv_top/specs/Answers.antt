@@ -1,7 +1,7 @@
 -- The answer of a call: how it ends, its status, its record, and what the sink got.
 use Rattle.std.specs.Prelude.{◌≡◌, ◌⊎◌, ℕ, List, Some, Result, Ok, Err, string_bytes}
 use Rattle.cv_io.specs.Faults.{Rose}
-use Rattle.cv_node.specs.declared.event.Record.{Record}
+use Rattle.cv_protocol.specs.declared.event.Record.{Record}
 use Rattle.cv_top.specs.declared.end.Answer.{Answer}
 use Rattle.cv_top.specs.declared.end.End.{End}
 use Rattle.cv_top.specs.declared.end.End.TheVariants as end
@@ -83,7 +83,7 @@ IsTaskDecided t r (Ok answer) = (bytes : List ℕ) × Gave r bytes × IsDoneFor 
 IsTaskDecided t r (Err refusal.ReadFault) = GaveAtMost script_limit r × Rose r.before r.now
 IsTaskDecided t r (Err refusal.TooLong) = GaveOneMore script_limit r × IsSteady r
 IsTaskDecided t r (Err refusal.OutOfMemory) = GaveAtMost script_limit r × IsSteady r
-IsTaskDecided t r (Err (refusal.Script line col c)) = GaveRefused t r (refusal.Script line col c)
+IsTaskDecided t r (Err (refusal.Script line col c)) = GaveRefused r (refusal.Script line col c)
 IsTaskDecided t r (Err refusal.Usage) = ⊥
 
 -- the same of the script of so many chains

@@ -5,13 +5,10 @@ use Rattle.std.specs.declared.alloc.Global.{Global}
 use Rattle.std.specs.Fmt.{decimal}
 use Rattle.cv_io.specs.Faults.{Rose}
 use Rattle.cv_deploy.specs.declared.fault.Code.{Code}
-use Rattle.cv_deploy.specs.declared.fault.Code.TheVariants as code
 use Rattle.cv_deploy.specs.declared.fault.NoNetwork.{NoNetwork}
 use Rattle.cv_deploy.specs.declared.fault.NoNetwork.TheVariants as none
 use Rattle.cv_deploy.specs.declared.fault.Fault.{Fault}
-use Rattle.cv_deploy.specs.Faults.{HasFault, Means, first_fault, word_of}
-use Rattle.cv_kinds.specs.Net.{Net}
-use Rattle.cv_kinds.specs.Wired.{HasOneReader}
+use Rattle.cv_deploy.specs.Faults.{HasFault, word_of}
 use Rattle.cv_top.specs.declared.end.End.{End}
 use Rattle.cv_top.specs.declared.end.End.TheVariants as end
 use Rattle.cv_top.specs.declared.end.Refusal.{Refusal}
@@ -19,7 +16,6 @@ use Rattle.cv_top.specs.declared.end.Refusal.TheVariants as refusal
 use Rattle.cv_top.specs.declared.words.Command.{Command}
 use Rattle.cv_top.specs.declared.words.Command.TheVariants.{Script}
 use Rattle.cv_top.specs.declared.words.Task.{Task}
-use Rattle.cv_top.specs.declared.words.Task.TheVariants as task
 use Rattle.cv_top.specs.Devices.{Reading, Gave, GaveAtMost, GaveOneMore, IsSteady, IsUnread}
 use Rattle.cv_top.specs.Words.{command_of}
 
@@ -37,43 +33,24 @@ IsAsking words = (c : Command) × (command_of words ≡ Some c)
 abbrev pub IsReading : List (List ℕ) → Type 0
 IsReading words = (t : Task) × (command_of words ≡ Some (Script t))
 
--- one node does not run a network yet of which an outport has several readers
-abbrev pub IsBuilt : Task → Net → Type 0
-IsBuilt (task.Run most) net = HasOneReader net
-IsBuilt (task.Solo most) net = Unit {0}
-IsBuilt task.Compile net = Unit {0}
-
--- a refusal of a network that the task is not built for, or want of memory
-abbrev pub IsUnbuiltFor : Task → Net → Refusal → Type 0
-IsUnbuiltFor t net (refusal.Script line col c) = (IsBuilt t net → ⊥) × (record { line = line; col = col; code = c } ≡ first_fault code.Unbuilt)
-IsUnbuiltFor t net refusal.OutOfMemory = Unit {0}
-IsUnbuiltFor t net refusal.Usage = ⊥
-IsUnbuiltFor t net refusal.ReadFault = ⊥
-IsUnbuiltFor t net refusal.TooLong = ⊥
-
--- the bytes mean a network that the task is not built for, which is told at their first byte
-abbrev pub IsUnbuilt : Task → List ℕ → Fault → Type 0
-IsUnbuilt t bytes fault = (net : Net) × Means bytes net × (IsBuilt t net → ⊥) × (fault ≡ first_fault code.Unbuilt)
-
--- a refusal of a script's bytes: a fault that they have, a network that the task is not built for, or want of memory
-abbrev pub IsRefusalOf : Task → List ℕ → Refusal → Type 0
-IsRefusalOf t bytes (refusal.Script line col c) =
-    HasFault bytes (record { line = line; col = col; code = c }) ⊎ IsUnbuilt t bytes (record { line = line; col = col; code = c })
-IsRefusalOf t bytes refusal.OutOfMemory = Unit {0}
-IsRefusalOf t bytes refusal.Usage = ⊥
-IsRefusalOf t bytes refusal.ReadFault = ⊥
-IsRefusalOf t bytes refusal.TooLong = ⊥
+-- a refusal of a script's bytes: a fault that they have, or want of memory
+abbrev pub IsRefusalOf : List ℕ → Refusal → Type 0
+IsRefusalOf bytes (refusal.Script line col c) = HasFault bytes (record { line = line; col = col; code = c })
+IsRefusalOf bytes refusal.OutOfMemory = Unit {0}
+IsRefusalOf bytes refusal.Usage = ⊥
+IsRefusalOf bytes refusal.ReadFault = ⊥
+IsRefusalOf bytes refusal.TooLong = ⊥
 
 -- the source gave a script that is refused so
-abbrev pub GaveRefused : Task → Reading → Refusal → Type 0
-GaveRefused t r x = (bytes : List ℕ) × Gave r bytes × (length bytes ≤ script_limit) × IsRefusalOf t bytes x
+abbrev pub GaveRefused : Reading → Refusal → Type 0
+GaveRefused r x = (bytes : List ℕ) × Gave r bytes × (length bytes ≤ script_limit) × IsRefusalOf bytes x
 
 -- Usage: the words are not of the form, and nothing was read. Script: the source gave a script that is refused with that fault.
 -- ReadFault: the source's count of faults rose. TooLong: the source gave one byte more than the limit. Want of memory may
 -- come in place of any other answer that takes memory, and the source did not fail then.
 abbrev pub IsCause : List (List ℕ) → Reading → Refusal → Type 0
 IsCause words r refusal.Usage = (command_of words ≡ None) × IsUnread r
-IsCause words r (refusal.Script line col c) = (t : Task) × (command_of words ≡ Some (Script t)) × GaveRefused t r (refusal.Script line col c)
+IsCause words r (refusal.Script line col c) = IsReading words × GaveRefused r (refusal.Script line col c)
 IsCause words r refusal.ReadFault = IsReading words × GaveAtMost script_limit r × Rose r.before r.now
 IsCause words r refusal.TooLong = IsReading words × GaveOneMore script_limit r × IsSteady r
 IsCause words r refusal.OutOfMemory = IsAsking words × GaveAtMost script_limit r × IsSteady r

@@ -1,18 +1,23 @@
 -- The text of a run: the lines of its prints, the number of its firings, and its end.
 use Rattle.std.specs.Prelude.{◌≡◌, ℕ, List, [], ◌∷◌, ◌++◌, length, Some, codes}
 use Rattle.std.specs.Fmt.{decimal}
-use Rattle.std.specs.List.{flat_map}
 use Rattle.cv_kinds.specs.Net.{Net}
-use Rattle.cv_node.specs.declared.event.Step.{Step}
-use Rattle.cv_node.specs.declared.run.Stop.{Stop}
-use Rattle.cv_node.specs.declared.run.Stop.TheVariants as stop
-use Rattle.cv_merge.specs.Streams.{firing_of}
+use Rattle.cv_protocol.specs.declared.event.Event.{Event}
+use Rattle.cv_protocol.specs.declared.event.Step.{Step}
+use Rattle.cv_alone.specs.declared.alone.Stop.{Stop}
+use Rattle.cv_alone.specs.declared.alone.Stop.TheVariants as stop
+use Rattle.cv_alone.specs.Resting.{run_app}
+use Rattle.cv_handover.specs.Runtimes.{firing_at, firings}
 use Rattle.cv_solo.specs.OneRuntime.{Runtime, solo}
 use Rattle.cv_solo.specs.PrintedText.{IsPrinted}
 
 -- the recorded firings, in recorded order: the actor and the action of each
 abbrev pub firings_of : List Step → List (ℕ × ℕ)
-firings_of steps = flat_map (λ s. firing_of s.event) steps
+firings_of steps = firings run_app steps
+
+-- the firing of one event
+abbrev pub firing_of : Event → List (ℕ × ℕ)
+firing_of e = firing_at run_app e
 
 abbrev pub end_word : Stop → List ℕ
 end_word stop.Spent = codes "spent"

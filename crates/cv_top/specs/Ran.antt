@@ -1,17 +1,25 @@
 -- What a command leaves: its record, and its text.
-use Rattle.std.specs.Prelude.{◌≡◌, ℕ, ◌<◌, List, [], ◌++◌, length, Some}
+use Rattle.std.specs.Prelude.{◌≡◌, ℕ, ◌<◌, List, [], ◌∷◌, ◌++◌, length, Some}
 use Rattle.cv_deploy.specs.Faults.{Means}
 use Rattle.cv_kinds.specs.Net.{Net}
+use Rattle.cv_kinds.specs.Wired.{IsWired}
+use Rattle.cv_kinds.specs.declared.network.ActorSpec.{ActorSpec}
 use Rattle.cv_network.specs.Written.{network_token}
 use Rattle.cv_token.specs.Spelling.{spelling}
-use Rattle.cv_kinds.specs.Wired.{IsWired}
-use Rattle.cv_node.specs.declared.event.Entry.{Entry}
-use Rattle.cv_node.specs.declared.event.Record.{Record}
-use Rattle.cv_node.specs.declared.run.Stop.{Stop}
-use Rattle.cv_node.specs.declared.run.Stop.TheVariants as stop
-use Rattle.cv_node.specs.Recorded.{IsOneNodeRun}
-use Rattle.cv_merge.specs.Streams.{StreamsInOrder}
-use Rattle.cv_solo.specs.OneRuntime.{Runtime, solo}
+use Rattle.cv_protocol.specs.declared.event.Entry.{Entry}
+use Rattle.cv_protocol.specs.declared.event.Record.{Record}
+use Rattle.cv_protocol.specs.declared.event.Step.{Step}
+use Rattle.cv_protocol.specs.NodeState.{NodeState, opening}
+use Rattle.cv_protocol.specs.Owners.{Owners, Nowhere}
+use Rattle.cv_alone.specs.declared.alone.Stop.{Stop}
+use Rattle.cv_alone.specs.declared.alone.Stop.TheVariants as stop
+use Rattle.cv_alone.specs.Recorded.{IsOneNodeRun, first_entry, first_spec, only_first}
+use Rattle.cv_alone.specs.Resting.{run_app}
+use Rattle.cv_handover.specs.Alone.{Alone}
+use Rattle.cv_handover.specs.Meaning.{Nets}
+use Rattle.cv_handover.specs.Runs.{OneOwner, nets_of, nothing_yet}
+use Rattle.cv_solo.specs.OneRuntime as solo
+use Rattle.cv_solo.specs.OneRuntime.{Runtime}
 use Rattle.cv_solo.specs.PlainNetwork.{IsIdle, IsPlainRun}
 use Rattle.cv_top.specs.declared.end.End.{End}
 use Rattle.cv_top.specs.declared.end.End.TheVariants as end
@@ -24,16 +32,35 @@ use Rattle.cv_top.specs.Printed.{firings_of, IsTextOf}
 abbrev pub IsEmptyRecord : Record → Type 0
 IsEmptyRecord m = (m.entries ≡ []) × (m.specs ≡ [])
 
+-- nodes before their first entries; node 1 is as in every run
+abbrev pub openings : ℕ → NodeState
+openings i = opening (record first_spec { no = i })
+
+-- nobody lives anywhere yet
+abbrev pub nowhere : Owners
+nowhere a = Nowhere
+
+-- the networks of a run: its own, as the one application of node 1
+abbrev pub nets : Net → List Entry → ActorSpec → Nets
+nets net more nobody = nets_of nobody (only_first (first_entry net ∷ more))
+
+-- after these steps the one runtime that fires the recorded actions is defined; what each consumer got is the beginning of what
+-- its producer wrote, and it took no more than it got
+abbrev pub StreamsInOrder : Net → List Entry → List Step → Type 0
+StreamsInOrder net more begins =
+    (nobody : ActorSpec) → Alone (nets net more nobody) openings (nothing_yet (nets net more nobody)) (solo.opening net) begins run_app
+
 -- a run of a network, with so many firings at most, that stopped so, with this record and this text
 pub record IsRightRun (net : Net) (most : ℕ) (s : Stop) (m : Record) (text : List ℕ) : Type 0 where
   -- the record is a local run of node 1 alone, that begins with the network's one deployment, and its end is right
   pub run : IsOneNodeRun net most s m
-  -- at every beginning of it the one runtime allows the firings, what each consumer got is the beginning of what its
-  -- producer wrote, and it took no more than it got
-  pub streams : (begins rest : List Entry) → run.entries ≡ begins ++ rest → StreamsInOrder net begins
+  -- at every beginning of it each actor lives at its owner and nowhere else
+  pub owners : OneOwner openings nowhere m.entries
+  -- at every beginning of it the streams are in order
+  pub streams : (begins rest : List Step) → m.entries ≡ begins ++ rest → StreamsInOrder net run.more begins
   -- the text is that of the one runtime that fires the recorded actions in recorded order
   pub runtime : Runtime
-  pub defined : solo net (firings_of m.entries) ≡ Some runtime
+  pub defined : solo.solo net (firings_of m.entries) ≡ Some runtime
   pub printed : IsTextOf net (firings_of m.entries) runtime s text
 
 -- a run in rounds is spent exactly after the firings that were allowed, and quiescent only after fewer and where no action is

@@ -5,8 +5,9 @@ ghost use Rattle.cv_top.specs.Answers.{status_of};
 ghost use Rattle.cv_top.specs.Causes.{end_of};
 ghost use Rattle.cv_top.specs.Ran.{end_at, IsEmptyRecord};
 
+use cv_alone::Stop;
 use cv_deploy::Code;
-use cv_node::{NodeSpecs, Record, Steps, Stop};
+use cv_protocol::{NodeSpecs, Record, Steps};
 use std::alloc::Global;
 
 /// How a call ends.

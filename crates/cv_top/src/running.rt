@@ -1,80 +1,57 @@
 //! What is done with the network of a script: a run on one node or in rounds, or its text.
 
 ghost use Rattle.std.specs.Prelude.{◌≡◌, ◌≤◌, ◌^◌, ℕ, List, ◌++◌, length, Some, string_bytes, IfOk, IfErr, OnOk};
-ghost use Rattle.cv_deploy.specs.declared.fault.Code.TheVariants as code;
 ghost use Rattle.cv_deploy.specs.declared.fault.Fault.{Fault};
-ghost use Rattle.cv_deploy.specs.Faults.{HasFault, Means, first_fault};
+ghost use Rattle.cv_deploy.specs.Faults.{HasFault, Means};
 ghost use Rattle.cv_kinds.specs.Net.{Net};
-ghost use Rattle.cv_kinds.specs.Wired.{HasOneReader, IsWired};
+ghost use Rattle.cv_kinds.specs.Wired.{IsWired};
 ghost use Rattle.cv_network.specs.Written.{network_token};
-ghost use Rattle.cv_node.specs.declared.run.Stop.{Stop};
+ghost use Rattle.cv_alone.specs.declared.alone.Stop.{Stop};
 ghost use Rattle.cv_solo.specs.OneRuntime.{Runtime, opening, solo, solo_from};
 ghost use Rattle.cv_solo.specs.PlainNetwork.{IsPlainRun};
 ghost use Rattle.cv_token.specs.Spelling.{spelling};
 ghost use Rattle.cv_top.specs.declared.end.End.TheVariants as end;
-ghost use Rattle.cv_top.specs.declared.words.Task.TheVariants as tasks;
-ghost use Rattle.cv_top.specs.Causes.{IsBuilt, IsRefusalOf, IsUnbuiltFor, DoneOrFailed, FaultOrFailed, UnlessRefused, RefusedBy, refusal_of, with_feed};
-ghost use Rattle.cv_top.specs.Printed.{firings_of, last_lines, end_word, IsTextWhereDefined};
-ghost use Rattle.cv_merge.specs.Streams.{firing_of};
+ghost use Rattle.cv_top.specs.Causes.{IsRefusalOf, DoneOrFailed, FaultOrFailed, UnlessRefused, RefusedBy, refusal_of, with_feed};
+ghost use Rattle.cv_top.specs.Printed.{firing_of, firings_of, last_lines, end_word, IsTextWhereDefined};
 ghost use Rattle.cv_top.specs.Ran.{IsDoneFor, IsEmptyRecord, IsRight, IsRightRun, IsRightRounds, RoundsEnd, end_at};
 
 use crate::end::{Answer, End, Refusal, empty_record};
 use crate::words::Task;
-use cv_deploy::{Code, NoNetwork, compile};
-use cv_graph::has_one_reader;
+use cv_alone::{Stop, run_alone};
+use cv_deploy::{NoNetwork, compile};
 use cv_kinds::Network;
 use cv_network::network_text;
-use cv_node::{Event, Record, Step, Stop, run_alone};
+use cv_protocol::{Event, Step};
 use cv_solo::{Solo, SoloFault};
-use cv_token::OutOfMemory;
+use cv_token::{AppId, OutOfMemory};
 use std::alloc::{AllocError, Global};
+
+/// The application of a run.
+const RUN: AppId = AppId { node: 1, seq: 1 };
 
 /// Does what the task asks with the network that the bytes of a script mean.
 pub fn do_task(alloc: Global, bytes: &[u8], task: Task) -> Result<Answer, Refusal>
     requires { length bytes.now ≤ 2 ^ 31 }
     ensures done { IfOk result (λ answer. IsDoneFor task bytes.now answer.end answer.merged (string_bytes answer.text)) }
-    ensures cause { IfErr result (IsRefusalOf task bytes.now) }
-    ensures complete { (net : Net) → Means bytes.now net → IsBuilt task net → UnlessRefused result DoneOrFailed }
-    ensures unbuilt { (net : Net) → Means bytes.now net → (IsBuilt task net → ⊥) → RefusedBy result (FaultOrFailed (first_fault code.Unbuilt)) }
+    ensures cause { IfErr result (IsRefusalOf bytes.now) }
+    ensures complete { (net : Net) → Means bytes.now net → UnlessRefused result DoneOrFailed }
     ensures faulty { (fault : Fault) → HasFault bytes.now fault → RefusedBy result (FaultOrFailed fault) }
 {
     match compile(alloc, bytes) {
-        Ok(net) => do_with(alloc, net, task),
+        Ok(net) => do_with(alloc, net, task).map_err(|_| Refusal::OutOfMemory),
         Err(none) => Err(refusal_of(none)),
     }
 }
 
 /// Does what the task asks with a network.
-fn do_with(alloc: Global, net: Network, task: Task) -> Result<Answer, Refusal>
+fn do_with(alloc: Global, net: Network, task: Task) -> Result<Answer, OutOfMemory>
     requires { IsWired net }
-    ensures done { IfOk result (λ answer. IsRight task net answer.end answer.merged (string_bytes answer.text)) }
-    ensures built { IfOk result (λ answer. IsBuilt task net) }
-    ensures cause { IfErr result (IsUnbuiltFor task net) }
+    ensures { IfOk result (λ answer. IsRight task net answer.end answer.merged (string_bytes answer.text)) }
 {
     match task {
-        Task::Run { firings } => run_if_built(alloc, net, firings),
-        Task::Solo { firings } => run_in_rounds(alloc, &net, firings).map_err(
-            |_| Refusal::OutOfMemory,
-        ),
-        Task::Compile => shown(alloc, &net).map_err(|_| Refusal::OutOfMemory),
-    }
-}
-
-/// Runs a network on one node, where none of its outports has several readers.
-fn run_if_built(alloc: Global, net: Network, most: u32) -> Result<Answer, Refusal>
-    requires { IsWired net }
-    ensures ran { IfOk result (λ answer. (stop : Stop) × (answer.end ≡ end_at stop) × IsRightRun net most stop answer.merged (string_bytes answer.text)) }
-    ensures built { IfOk result (λ answer. HasOneReader net) }
-    ensures cause { IfErr result (IsUnbuiltFor (tasks.Run most) net) }
-{
-    match has_one_reader(alloc, &net) {
-        Ok(true) => run_on_node(alloc, net, most).map_err(|_| Refusal::OutOfMemory),
-        Ok(false) => Err(Refusal::Script {
-            line: 1,
-            col: 1,
-            code: Code::Unbuilt,
-        }),
-        Err(_) => Err(Refusal::OutOfMemory),
+        Task::Run { firings } => run_on_node(alloc, net, firings),
+        Task::Solo { firings } => run_in_rounds(alloc, &net, firings),
+        Task::Compile => shown(alloc, &net),
     }
 }
 
@@ -140,10 +117,8 @@ fn make_rounds(alloc: Global, solo: &mut Solo, most: u32) -> Result<(Stop, u32),
 }
 
 /// Runs a network on one node, with so many firings at most.
-#[tactic(auto, using(crate::proofs::Rights::right_run))]
 fn run_on_node(alloc: Global, net: Network, most: u32) -> Result<Answer, OutOfMemory>
-    requires wired { IsWired net }
-    requires one_reader { HasOneReader net }
+    requires { IsWired net }
     ensures { IfOk result (λ answer. (stop : Stop) × (answer.end ≡ end_at stop) × IsRightRun net most stop answer.merged (string_bytes answer.text)) }
 {
     let (stop, merged) = run_alone(alloc, net.copy(alloc)?, most)?;
@@ -213,6 +188,9 @@ fn replay_step(alloc: Global, solo: &mut Solo, step: &Step) -> Result<(), OutOfM
     let Event::Fire { actor, action } = &step.event else {
         return Ok(())
     };
+    if actor.app != RUN {
+        return Ok(());
+    }
     match solo.fire(alloc, actor.actor, *action) {
         Err(SoloFault::OutOfMemory) => Err(AllocError),
         _ => Ok(()),
@@ -230,16 +208,13 @@ fn firing_count(steps: &[Step]) -> usize
     count
 }
 
-/// Whether a step is a firing, as a number.
+/// Whether a step is a firing of the run's application, as a number.
 fn firings_in(step: &Step) -> usize
     ensures count { result ≡ length (firing_of step.now.event) }
     ensures one { result ≤ 1 }
 {
     match &step.event {
-        Event::Fire {
-            actor: _,
-            action: _,
-        } => 1,
+        Event::Fire { actor, action: _ } if actor.app == RUN => 1,
         _ => 0,
     }
 }

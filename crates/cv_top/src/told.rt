@@ -8,7 +8,7 @@ ghost use Rattle.cv_top.specs.Devices.{Reading};
 use crate::end::{End, Outcome, Refusal, empty_record};
 use cv_deploy::Code;
 use cv_io::{Sink, write_all};
-use cv_node::Record;
+use cv_protocol::Record;
 use cv_token::OutOfMemory;
 use std::alloc::Global;
 

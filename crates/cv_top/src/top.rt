@@ -1,14 +1,13 @@
 //! `calvin`: the call that the program makes.
 
 ghost use Rattle.std.specs.Prelude.{◌≡◌, ◌⊎◌, ℕ, List, map, string_bytes, vec_len, Some, IfErr};
-ghost use Rattle.cv_deploy.specs.declared.fault.Code.TheVariants as code;
 ghost use Rattle.cv_deploy.specs.declared.fault.Fault.{Fault};
-ghost use Rattle.cv_deploy.specs.Faults.{HasFault, Means, first_fault};
+ghost use Rattle.cv_deploy.specs.Faults.{HasFault, Means};
 ghost use Rattle.cv_kinds.specs.Net.{Net};
 ghost use Rattle.cv_top.specs.declared.words.Command.TheVariants.{Script as AsksScript};
 ghost use Rattle.cv_top.specs.declared.words.Task.{Task};
 ghost use Rattle.cv_top.specs.Answers.{status_of, IsAnswered, IsDecided, IsTaskDecided, IsGenAnswer};
-ghost use Rattle.cv_top.specs.Causes.{IsBuilt, IsToldWithin, IsScriptRead, DoneOrFailed, FaultOrFailed, UnlessRefused, RefusedBy};
+ghost use Rattle.cv_top.specs.Causes.{IsToldWithin, IsScriptRead, DoneOrFailed, FaultOrFailed, UnlessRefused, RefusedBy};
 ghost use Rattle.cv_top.specs.Words.{command_of};
 
 use crate::end::{Answer, End, Outcome, Refusal, empty_record};
@@ -43,10 +42,8 @@ pub fn calvin<R: Threads + Sync, S: Source, K: Sink, G: Gate>(
     ensures cuts { vec_len result.cuts ≡ 0 }
 
     // Words that ask for a command and bytes that mean a network end as the command does, unless memory runs out or the
-    // source or the sink fails; but a run of a network of which an outport has several readers ends in Unbuilt at 1:1. Bytes
-    // that have a fault end in that fault.
-    ensures complete { (task : Task) (bytes : List ℕ) (net : Net) → command_of (map string_bytes words.now) ≡ Some (AsksScript task) → IsToldWithin (S.left source.old) bytes → Means bytes net → IsBuilt task net → DoneOrFailed result.end }
-    ensures unbuilt { (task : Task) (bytes : List ℕ) (net : Net) → command_of (map string_bytes words.now) ≡ Some (AsksScript task) → IsToldWithin (S.left source.old) bytes → Means bytes net → (IsBuilt task net → ⊥) → FaultOrFailed (first_fault code.Unbuilt) result.end }
+    // source or the sink fails. Bytes that have a fault end in that fault.
+    ensures complete { (task : Task) (bytes : List ℕ) (net : Net) → command_of (map string_bytes words.now) ≡ Some (AsksScript task) → IsToldWithin (S.left source.old) bytes → Means bytes net → DoneOrFailed result.end }
     ensures faulty { (task : Task) (bytes : List ℕ) (fault : Fault) → command_of (map string_bytes words.now) ≡ Some (AsksScript task) → IsToldWithin (S.left source.old) bytes → HasFault bytes fault → FaultOrFailed fault result.end }
 {
     match answer(alloc, words, source) {
@@ -61,8 +58,7 @@ pub fn calvin<R: Threads + Sync, S: Source, K: Sink, G: Gate>(
 /// What the words and the source are answered with.
 fn answer<S: Source>(alloc: Global, words: &[String], source: &mut S) -> Result<Answer, Refusal>
     ensures decided { IsDecided (map string_bytes words.now) (record { left = S.left source.old; rest = S.left source.new; before = S.faults source.old; now = S.faults source.new }) result }
-    ensures complete { (task : Task) (bytes : List ℕ) (net : Net) → command_of (map string_bytes words.now) ≡ Some (AsksScript task) → IsToldWithin (S.left source.old) bytes → Means bytes net → IsBuilt task net → UnlessRefused result DoneOrFailed }
-    ensures unbuilt { (task : Task) (bytes : List ℕ) (net : Net) → command_of (map string_bytes words.now) ≡ Some (AsksScript task) → IsToldWithin (S.left source.old) bytes → Means bytes net → (IsBuilt task net → ⊥) → RefusedBy result (FaultOrFailed (first_fault code.Unbuilt)) }
+    ensures complete { (task : Task) (bytes : List ℕ) (net : Net) → command_of (map string_bytes words.now) ≡ Some (AsksScript task) → IsToldWithin (S.left source.old) bytes → Means bytes net → UnlessRefused result DoneOrFailed }
     ensures faulty { (task : Task) (bytes : List ℕ) (fault : Fault) → command_of (map string_bytes words.now) ≡ Some (AsksScript task) → IsToldWithin (S.left source.old) bytes → HasFault bytes fault → RefusedBy result (FaultOrFailed fault) }
 {
     match read_command(words) {
@@ -75,8 +71,7 @@ fn answer<S: Source>(alloc: Global, words: &[String], source: &mut S) -> Result<
 /// Does what the task asks with the script that the source gives.
 fn do_source<S: Source>(alloc: Global, source: &mut S, task: Task) -> Result<Answer, Refusal>
     ensures decided { IsTaskDecided task (record { left = S.left source.old; rest = S.left source.new; before = S.faults source.old; now = S.faults source.new }) result }
-    ensures complete { (bytes : List ℕ) (net : Net) → IsToldWithin (S.left source.old) bytes → Means bytes net → IsBuilt task net → UnlessRefused result DoneOrFailed }
-    ensures unbuilt { (bytes : List ℕ) (net : Net) → IsToldWithin (S.left source.old) bytes → Means bytes net → (IsBuilt task net → ⊥) → RefusedBy result (FaultOrFailed (first_fault code.Unbuilt)) }
+    ensures complete { (bytes : List ℕ) (net : Net) → IsToldWithin (S.left source.old) bytes → Means bytes net → UnlessRefused result DoneOrFailed }
     ensures faulty { (bytes : List ℕ) (fault : Fault) → IsToldWithin (S.left source.old) bytes → HasFault bytes fault → RefusedBy result (FaultOrFailed fault) }
 {
     let bytes = read_script(alloc, source)?;

@@ -13,11 +13,6 @@ returns-clause-complete g c = λ bytes net told means.
     let read = c.in_ok-bytes.ensures in
     c.do_task.ensures.complete net (subst (λ (bs : List ℕ). Means bs net) (read_whole _ _ c.in_ok-bytes.bytes.items bytes told.0 read.0.given read.0.ended ∙ sym c.as_slice.ensures.value) means)
 
-pub returns-clause-unbuilt : goal.returns-clause-unbuilt
-returns-clause-unbuilt g c = λ bytes net told means.
-    let read = c.in_ok-bytes.ensures in
-    c.do_task.ensures.unbuilt net (subst (λ (bs : List ℕ). Means bs net) (read_whole _ _ c.in_ok-bytes.bytes.items bytes told.0 read.0.given read.0.ended ∙ sym c.as_slice.ensures.value) means)
-
 pub returns-clause-faulty : goal.returns-clause-faulty
 returns-clause-faulty g c = λ bytes fault told has.
     let read = c.in_ok-bytes.ensures in

@@ -1,0 +1,14 @@
+use Rattle.std.proofs.Common.{◌≡◌, ◌+◌, ◌-◌, ℕ, Option, subst, arith}
+use Rattle.cv_alone.specs.Going.{GoesOn}
+use Rattle.cv_alone.specs.Turns.{Turns}
+use Rattle.cv_alone.proofs.Sweeps.{goes_on_step}
+use Rattle.cv_alone.proofs.alone.go_on.Goals as goal
+
+pub loop-left-preserved : goal.loop-left-preserved
+loop-left-preserved c =
+    let turns = subst (λ (o : Option ℕ). Turns c.loop-left.node c.args.actors c.args.connections c.loop-left.left o c.turn.new.node) c.in-Some.is c.in_ok-fired.ensures in
+    let count : (c.args.most - c.loop-left.left) + c.in-Some.fired ≡ c.args.most - (c.loop-left.left - c.in-Some.fired) = omega (arith, c.loop-left.invariant.within, turns.0) in
+    record {
+      within = omega (arith, c.loop-left.invariant.within);
+      goes_on = subst (GoesOn c.args.node.now c.turn.new.node) count (goes_on_step c.args.node.now c.loop-left.node c.turn.new.node (c.args.most - c.loop-left.left) c.in-Some.fired c.loop-left.invariant.goes_on turns.1);
+    }

@@ -1,0 +1,12 @@
+use Rattle.std.proofs.Common.{◌-◌, ◌≤◌, length}
+use Rattle.cv_alone.specs.Going.{GoesOn, journal_length}
+use Rattle.cv_alone.proofs.alone.go_on.Given as goal
+
+abbrev pub invariant-loop-left : goal.invariant-loop-left
+invariant-loop-left l = record {
+  within : l.left ≤ l.most;
+  goes_on : GoesOn l.fn.node l.node (l.most - l.left);
+}
+
+abbrev pub decreases-loop-left : goal.decreases-loop-left
+decreases-loop-left l = journal_length - length l.node.entries

@@ -1,0 +1,79 @@
+-- How the run of one node goes on.
+use Rattle.std.specs.Prelude.{◌≡◌, ℕ, ◌+◌, ◌≤◌, ◌^◌, Bool, true, false, List, ◌++◌, length, count_by}
+use Rattle.std.specs.List.{list_all}
+use Rattle.cv_token.specs.declared.identifiers.ActorId.{ActorId}
+use Rattle.cv_protocol.specs.declared.event.Entry.{Entry}
+use Rattle.cv_protocol.specs.declared.event.Event.{Event}
+use Rattle.cv_protocol.specs.declared.event.Event.TheVariants as event
+use Rattle.cv_actor.specs.declared.act.Polled.{Polled}
+use Rattle.cv_actor.specs.declared.act.Polled.TheVariants as polled
+use Rattle.cv_journal.specs.Journalled.{Journalled}
+use Rattle.cv_journal.specs.Polls.{HasPolled}
+use Rattle.cv_alone.specs.declared.sweep.Swept.{Swept}
+use Rattle.cv_alone.specs.Resting.{until_from}
+
+-- what a node does by itself once its application is deployed
+abbrev pub is_own : Event → Bool
+is_own (event.Tick now) = true
+is_own (event.Peek a port) = true
+is_own (event.Fire a action) = true
+is_own (event.Pass conn) = true
+is_own (event.Meet node attrs) = false
+is_own (event.Deploy name net) = false
+is_own (event.Send conn) = false
+is_own (event.Rewind conn) = false
+is_own (event.Freeze a to) = false
+is_own (event.Resend a) = false
+is_own (event.Withdraw a) = false
+is_own (event.Hint a attempt node) = false
+is_own (event.Destroy app) = false
+is_own (event.Lose f) = false
+is_own (event.Deliver f) = false
+
+abbrev pub is_firing : Event → Bool
+is_firing (event.Fire a action) = true
+is_firing (event.Tick now) = false
+is_firing (event.Peek a port) = false
+is_firing (event.Pass conn) = false
+is_firing (event.Meet node attrs) = false
+is_firing (event.Deploy name net) = false
+is_firing (event.Send conn) = false
+is_firing (event.Rewind conn) = false
+is_firing (event.Freeze a to) = false
+is_firing (event.Resend a) = false
+is_firing (event.Withdraw a) = false
+is_firing (event.Hint a attempt node) = false
+is_firing (event.Destroy app) = false
+is_firing (event.Lose f) = false
+is_firing (event.Deliver f) = false
+
+-- the number of firings among the entries
+abbrev pub firing_count : List Entry → ℕ
+firing_count entries = count_by (λ (e : Entry). is_firing e.event) entries
+
+abbrev pub are_own : List Entry → Bool
+are_own entries = list_all (λ (e : Entry). is_own e.event) entries
+
+-- the most entries of a journal
+abbrev pub journal_length : ℕ
+journal_length = 2 ^ 30
+
+-- a node went on by itself with so many firings
+pub record GoesOn (old new : Journalled) (fired : ℕ) : Type 0 where
+  pub more : List Entry
+  pub appends : new.entries ≡ old.entries ++ more
+  pub own : are_own more ≡ true
+  pub firings : firing_count more ≡ fired
+  pub based : new.base ≡ old.base
+  pub few : length old.entries ≤ journal_length → length new.entries ≤ journal_length
+
+-- what a sweep over the actors did after one more poll
+abbrev pub swept_by : Swept → Polled → Swept
+swept_by swept (polled.Fired action) = record swept { changed = true; fired = swept.fired + 1 }
+swept_by swept (polled.Held port) = record swept { changed = true }
+swept_by swept (polled.Waiting lacks) = record swept { due = until_from swept.due lacks }
+
+pub record Polls (old : Journalled) (a : ActorId) (was swept : Swept) (new : Journalled) : Type 0 where
+  pub told : Polled
+  pub done : HasPolled old a told new
+  pub is : swept ≡ swept_by was told

@@ -1,0 +1,4 @@
+pub mod Going
+pub mod Recorded
+pub mod Resting
+pub mod Turns

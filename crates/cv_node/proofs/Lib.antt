@@ -1,4 +1,0 @@
-pub mod Firing
-pub mod Replays
-pub mod Recordings
-pub mod RunSteps

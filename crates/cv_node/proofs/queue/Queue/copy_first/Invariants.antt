@@ -1,5 +1,0 @@
-use Rattle.std.proofs.Common.{◌≡◌, ◌++◌, take}
-use Rattle.cv_node.proofs.queue.Queue.copy_first.Given as goal
-
-abbrev pub invariant-loop-place : goal.invariant-loop-place
-invariant-loop-place l = l.heads ≡ l.fn.heads ++ take l.place l.self-inside.held.items

@@ -1,6 +1,0 @@
-pub mod Journal
-pub mod LiveState
-pub mod NodeRow
-pub mod Recorded
-pub mod Room
-pub mod Runs
