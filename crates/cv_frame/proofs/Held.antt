@@ -37,8 +37,8 @@ use Rattle.cv_protocol.specs.declared.frame.Body.TheVariants as body
 use Rattle.cv_protocol.specs.declared.frame.Frame.{Frame}
 use Rattle.cv_frame.specs.Trees.{number, word, greatest, app_tree, actor_tree, conn_tree, inlet_tree, subscription_tree, out_tree, hint_tree, state_tree, verdict_number, body_tree, member, frame_tree}
 use Rattle.cv_frame.specs.Values.{IsBody, IsFrame, IsHint, IsIn, IsOut, IsReader, IsState}
-use Rattle.cv_frame.proofs.Ones.{rest_all}
-use Rattle.cv_frame.proofs.Stands.{out_told}
+use Rattle.cv_frame.specs.laws.Ones.{rest_all}
+use Rattle.cv_frame.specs.laws.Stands.{out_told}
 
 -- a tree that JSON can hold, and that nests so deep at most
 pub record Within (n : ℕ) (t : Token) : Type 0 where

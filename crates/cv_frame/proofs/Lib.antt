@@ -1,9 +1,6 @@
-pub mod Arguments
+pub mod Fronts
 pub mod Held
 pub mod Lists
-pub mod Members
-pub mod Ones
+pub mod Readable
 pub mod Readers
-pub mod Shapes
-pub mod Stands
 pub mod Wholes

@@ -10,7 +10,7 @@ ghost use Rattle.cv_frame.specs.Values.{IsCount, IsNode, IsApp, IsActor, IsConn}
 use cv_token::{ActorId, AppId, ConnId, Token};
 
 /// One more than the greatest count.
-const COUNTS: u64 = 1 << 62;
+pub(crate) const COUNTS: u64 = 1 << 62;
 
 /// The elements of a list of so many.
 pub(crate) fn parts_of(token: &Token, count: usize) -> Option<&[Token]>

@@ -2,6 +2,8 @@
 #![tactic(auto)]
 
 #[cfg(test)]
+mod feeding;
+#[cfg(test)]
 mod reading;
 #[cfg(test)]
 mod values;

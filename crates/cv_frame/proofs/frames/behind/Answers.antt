@@ -2,7 +2,7 @@ use Rattle.std.proofs.Common.{◌≡◌, List, ◌∷◌, get_or, sym, ap, ◌�
 use Rattle.cv_token.specs.declared.token.Token.{Token}
 use Rattle.cv_token.specs.declared.token.Token.TheVariants as tree
 use Rattle.cv_frame.specs.Trees.{word}
-use Rattle.cv_frame.proofs.Shapes.{same_list}
+use Rattle.cv_frame.specs.laws.Shapes.{same_list}
 use Rattle.cv_frame.proofs.frames.behind.Goals as goal
 
 pub returns-else-is_word : goal.returns-else-is_word

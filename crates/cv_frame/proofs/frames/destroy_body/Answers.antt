@@ -1,4 +1,4 @@
-use Rattle.cv_frame.proofs.Shapes.{part_behind}
+use Rattle.cv_frame.specs.laws.Shapes.{part_behind}
 use Rattle.cv_frame.proofs.frames.destroy_body.Goals as goal
 
 pub returns-in_err-app : goal.returns-in_err-app

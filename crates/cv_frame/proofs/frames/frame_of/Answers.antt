@@ -1,4 +1,4 @@
-use Rattle.cv_frame.proofs.Members.{value_at}
+use Rattle.cv_frame.specs.laws.Members.{value_at}
 use Rattle.cv_frame.proofs.frames.frame_of.Goals as goal
 
 pub returns-in_default-node_of : goal.returns-in_default-node_of

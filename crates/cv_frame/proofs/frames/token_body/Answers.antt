@@ -1,6 +1,6 @@
 use Rattle.std.proofs.Common.{sym, subst}
 use Rattle.cv_token.specs.Bounds.{Fits}
-use Rattle.cv_frame.proofs.Shapes.{part_behind}
+use Rattle.cv_frame.specs.laws.Shapes.{part_behind}
 use Rattle.cv_frame.proofs.frames.token_body.Goals as goal
 
 pub returns-in_default-conn_of : goal.returns-in_default-conn_of

@@ -5,8 +5,8 @@ use Rattle.cv_protocol.specs.Actors.{StateView}
 use Rattle.cv_protocol.specs.declared.frame.Body.TheVariants as body
 use Rattle.cv_frame.specs.Trees.{body_tree, word}
 use Rattle.cv_frame.specs.Values.{IsBody}
-use Rattle.cv_frame.proofs.Ones.{one_actor}
-use Rattle.cv_frame.proofs.Shapes.{listed, part_behind, stands}
+use Rattle.cv_frame.specs.laws.Ones.{one_actor}
+use Rattle.cv_frame.specs.laws.Shapes.{listed, part_behind, stands}
 use Rattle.cv_frame.proofs.frames.transfer_body.Goals as goal
 
 pub returns-in_default-actor_of : goal.returns-in_default-actor_of

@@ -1,4 +1,4 @@
-use Rattle.cv_frame.proofs.Shapes.{part_behind}
+use Rattle.cv_frame.specs.laws.Shapes.{part_behind}
 use Rattle.cv_frame.proofs.frames.verdict_body.Goals as goal
 
 pub returns-in_err-actor : goal.returns-in_err-actor

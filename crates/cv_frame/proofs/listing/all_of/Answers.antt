@@ -1,6 +1,6 @@
 use Rattle.std.proofs.Common.{◌∙◌}
 use Rattle.cv_frame.proofs.Lists.{no_image}
-use Rattle.cv_frame.proofs.Shapes.{same_list}
+use Rattle.cv_frame.specs.laws.Shapes.{same_list}
 use Rattle.cv_frame.proofs.listing.all_of.Goals as goal
 
 pub returns-in_default-2 : goal.returns-in_default-2

@@ -1,5 +1,5 @@
-use Rattle.cv_frame.proofs.Shapes.{part, same_list, same_number, stands, whole}
-use Rattle.cv_frame.proofs.Stands.{inlet_made, inlet_stands}
+use Rattle.cv_frame.specs.laws.Shapes.{part, same_list, same_number, stands, whole}
+use Rattle.cv_frame.specs.laws.Stands.{inlet_made, inlet_stands}
 use Rattle.cv_frame.proofs.ports.inlet_of.Goals as goal
 
 pub returns-in_default-conn_of : goal.returns-in_default-conn_of

@@ -1,7 +1,7 @@
 use Rattle.std.proofs.Common.{◌∙◌}
 use Rattle.std.proofs.lemmas.Result.{IfOk-weaker}
-use Rattle.cv_frame.proofs.Shapes.{part, stands, whole}
-use Rattle.cv_frame.proofs.Stands.{out_told, out_made}
+use Rattle.cv_frame.specs.laws.Shapes.{part, stands, whole}
+use Rattle.cv_frame.specs.laws.Stands.{out_told, out_made}
 use Rattle.cv_frame.proofs.ports.out_of.Goals as goal
 
 pub returns-in_default-count_of : goal.returns-in_default-count_of

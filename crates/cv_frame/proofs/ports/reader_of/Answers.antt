@@ -1,4 +1,4 @@
-use Rattle.cv_frame.proofs.Shapes.{part}
+use Rattle.cv_frame.specs.laws.Shapes.{part}
 use Rattle.cv_frame.proofs.ports.reader_of.Goals as goal
 
 pub returns-in_err-conn : goal.returns-in_err-conn

@@ -1,7 +1,7 @@
 use Rattle.std.proofs.Common.{sym, arith}
 use Rattle.std.proofs.lemmas.List.{length-map}
 use Rattle.cv_kinds.specs.Table.{taking}
-use Rattle.cv_frame.proofs.Arguments.{uneven}
+use Rattle.cv_frame.specs.laws.Arguments.{uneven}
 use Rattle.cv_frame.proofs.states.are_arguments.Goals as goal
 
 pub returns-then-params-args : goal.returns-then-params-args

@@ -1,7 +1,7 @@
 use Rattle.std.proofs.Common.{◌∙◌, sym, subst}
 use Rattle.cv_frame.specs.Values.{Rise}
-use Rattle.cv_frame.proofs.Ones.{same_hints}
-use Rattle.cv_frame.proofs.Shapes.{same_list}
+use Rattle.cv_frame.specs.laws.Ones.{same_hints}
+use Rattle.cv_frame.specs.laws.Shapes.{same_list}
 use Rattle.cv_frame.proofs.states.hints_of.Goals as goal
 
 pub returns-then-not-rise : goal.returns-then-not-rise

@@ -1,7 +1,7 @@
 use Rattle.std.proofs.Common.{ap, length, arith}
 use Rattle.std.proofs.lemmas.List.{length-map}
 use Rattle.cv_frame.specs.Trees.{inlet_tree, out_tree}
-use Rattle.cv_frame.proofs.Shapes.{same_list}
+use Rattle.cv_frame.specs.laws.Shapes.{same_list}
 use Rattle.cv_frame.proofs.states.ports_of.Goals as goal
 
 pub returns-then-len-from : goal.returns-then-len-from

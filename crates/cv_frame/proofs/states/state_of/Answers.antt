@@ -3,8 +3,8 @@ use Rattle.cv_token.specs.declared.token.Token.{Token}
 use Rattle.cv_kinds.specs.declared.network.ActorSpec.{ActorSpec}
 use Rattle.cv_kinds.specs.Sorts.{is_state}
 use Rattle.cv_protocol.specs.Actors.{IsShaped}
-use Rattle.cv_frame.proofs.Arguments.{one_spec}
-use Rattle.cv_frame.proofs.Shapes.{part, stands, whole}
+use Rattle.cv_frame.specs.laws.Arguments.{one_spec}
+use Rattle.cv_frame.specs.laws.Shapes.{part, stands, whole}
 use Rattle.cv_frame.proofs.Wholes.{state_made}
 use Rattle.cv_frame.proofs.states.state_of.Goals as goal
 

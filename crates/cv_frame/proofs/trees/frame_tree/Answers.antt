@@ -2,7 +2,7 @@ use Rattle.std.proofs.Common.{List, subst, sym, ◌∙◌}
 use Rattle.cv_token.specs.declared.pairs.Pair.{Pair}
 use Rattle.cv_token.specs.declared.token.Token.{Token}
 use Rattle.cv_token.specs.Rising.{AreRising}
-use Rattle.cv_frame.proofs.Members.{frame_rises}
+use Rattle.cv_frame.specs.laws.Members.{frame_rises}
 use Rattle.cv_frame.proofs.trees.frame_tree.Goals as goal
 
 pub from_items-requires : goal.from_items-requires

@@ -12,8 +12,8 @@ use Rattle.cv_protocol.specs.Travel.{queue_length}
 use Rattle.cv_protocol.specs.declared.state.Inlet.{Inlet}
 use Rattle.cv_frame.specs.Trees.{number, actor_tree, conn_tree, inlet_tree, out_tree, reader_tree, subscription_tree, most_readers}
 use Rattle.cv_frame.specs.Values.{AreHeld, AreReaders, IsActor, IsConn, IsCount, IsInlet, IsOut}
-use Rattle.cv_frame.proofs.Ones.{same_readers}
-use Rattle.cv_frame.proofs.Shapes.{same_list, same_number}
+use Rattle.cv_frame.specs.laws.Ones.{same_readers}
+use Rattle.cv_frame.specs.laws.Shapes.{same_list, same_number}
 
 pub inlet_stands : (i : Inlet) (taken : ℕ) (held : List Token) → IsInlet i → taken ≡ i.port.taken → held ≡ i.port.held → IsInPort (in_at queue_length taken held)
 inlet_stands i taken held k e f = subst IsInPort (k.stands ∙ ap₂ (in_at queue_length) (sym e) (sym f)) k.positions

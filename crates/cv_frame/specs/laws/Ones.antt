@@ -10,16 +10,16 @@ use Rattle.cv_queue.specs.declared.reader.Subscription.{Subscription}
 use Rattle.cv_protocol.specs.declared.state.Hint.{Hint}
 use Rattle.cv_frame.specs.Trees.{number, actor_tree, conn_tree, hint_tree, subscription_tree}
 use Rattle.cv_frame.specs.Values.{IsActor, IsApp, IsConn, IsHint, IsReader}
-use Rattle.cv_frame.proofs.Shapes.{same_list, same_number}
+use Rattle.cv_frame.specs.laws.Shapes.{same_list, same_number}
 
 -- what stands at a place of both lists
-both_at : (xs ys : List Token) (i : ℕ) → tree.List xs ≡ tree.List ys → get_or xs i tree.Null ≡ get_or ys i tree.Null
+pub both_at : (xs ys : List Token) (i : ℕ) → tree.List xs ≡ tree.List ys → get_or xs i tree.Null ≡ get_or ys i tree.Null
 both_at xs ys i e = ap (λ (l : List Token). get_or l i tree.Null) (same_list (tree.List xs) xs ys refl e)
 
-one_number : (n m : ℕ) → n < 2 ^ 62 → m < 2 ^ 62 → number n ≡ number m → n ≡ m
+pub one_number : (n m : ℕ) → n < 2 ^ 62 → m < 2 ^ 62 → number n ≡ number m → n ≡ m
 one_number n m low high e = same_number (number m) n m low high (sym e) refl
 
-one_app : (a b : AppId) → IsApp a → IsApp b → number a.node ≡ number b.node → number a.seq ≡ number b.seq → a ≡ b
+pub one_app : (a b : AppId) → IsApp a → IsApp b → number a.node ≡ number b.node → number a.seq ≡ number b.seq → a ≡ b
 one_app a b j k e f =
     let node : a.node ≡ b.node = one_number a.node b.node (omega (arith, j.node.1)) (omega (arith, k.node.1)) e in
     let seq : a.seq ≡ b.seq = one_number a.seq b.seq (omega (arith, j.seq)) (omega (arith, k.seq)) f in
@@ -47,7 +47,7 @@ one_reader a b j k e =
 pub rest_all : {X : Type 0} (P : X → Type 0) (x : X) (xs : List X) → All P (x ∷ xs) → All P xs
 rest_all P x xs all k d within = all (suc k) d (omega arith)
 
-same_images : {X Y : Type 0} (P : X → Type 0) (f : X → Y) → ((x y : X) → P x → P y → f x ≡ f y → x ≡ y) → (xs ys : List X) → All P xs → All P ys → map f xs ≡ map f ys → xs ≡ ys
+pub same_images : {X Y : Type 0} (P : X → Type 0) (f : X → Y) → ((x y : X) → P x → P y → f x ≡ f y → x ≡ y) → (xs ys : List X) → All P xs → All P ys → map f xs ≡ map f ys → xs ≡ ys
 same_images P f one [] [] j k e = refl
 same_images P f one [] (y ∷ ys) j k e = absurd (let h = ap length e in omega arith)
 same_images P f one (x ∷ xs) [] j k e = absurd (let h = ap length e in omega arith)

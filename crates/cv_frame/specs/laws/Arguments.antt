@@ -9,9 +9,9 @@ use Rattle.cv_kinds.specs.Names.{all_kinds, first_named}
 use Rattle.cv_kinds.specs.declared.network.ActorSpec.{ActorSpec}
 use Rattle.cv_kinds.proofs.Lines.{itself}
 use Rattle.cv_frame.specs.Trees.{spec_trees, word}
-use Rattle.cv_frame.proofs.Shapes.{same_list}
+use Rattle.cv_frame.specs.laws.Shapes.{same_list}
 
-one_word : (s r : List ℕ) → word s ≡ word r → s ≡ r
+pub one_word : (s r : List ℕ) → word s ≡ word r → s ≡ r
 one_word s r e = cc
 
 never : (a b : Bool) → (a && (b && false)) ≡ false
