@@ -14,18 +14,11 @@ pub reads_framed : (fs : List Frame) (stream rest : List ℕ) → Reads IsReadab
 reads_framed [] stream rest r = r
 reads_framed (f ∷ fs) stream rest r = (r.0, r.1, r.2.framed, r.3, reads_framed fs r.1 rest r.4)
 
-pub reads_readable : (fs : List Frame) (stream rest : List ℕ) → Reads IsFramed fs stream rest → Reads IsReadable fs stream rest
-reads_readable [] stream rest r = r
-reads_readable (f ∷ fs) stream rest r = (r.0, r.1, readable f r.0 r.2, r.3, reads_readable fs r.1 rest r.4)
-
 pub takes_framed : (old new : List Frame) (stream rest : List ℕ) → Takes IsReadable old new stream rest → Takes IsFramed old new stream rest
 takes_framed old new stream rest t = (t.0, t.1, reads_framed t.0 stream rest t.2)
 
 pub none_framed : (bytes : List ℕ) → HasNone IsReadable bytes → HasNone IsFramed bytes
 none_framed bytes none f front rest s e = none f front rest (readable f front s) e
-
-pub none_readable : (bytes : List ℕ) → HasNone IsFramed bytes → HasNone IsReadable bytes
-none_readable bytes none f front rest s e = none f front rest s.framed e
 
 pub silent_framed : (bytes : List ℕ) → IsSilent IsReadable Stands bytes → IsSilent IsFramed Stands bytes
 silent_framed bytes s = (none_framed bytes s.0, s.1)
