@@ -17,6 +17,7 @@ use Rattle.cv_token.specs.Spelling.{spelling}
 use Rattle.cv_token.specs.Spells.{IsTree, Spells}
 use Rattle.cv_token.proofs.Levels.{is_token-Dict}
 use Rattle.cv_token.proofs.Round.{one_spelling}
+use Rattle.cv_token.proofs.Strict.{value-Spells}
 use Rattle.cv_behave.proofs.Fitting.{bounds_of, depth-Null}
 use Rattle.cv_calc.specs.declared.kind.CalcKind.{CalcKind}
 use Rattle.cv_calc.specs.declared.kind.CalcKind.TheVariants as calc
@@ -248,3 +249,9 @@ state_held s k = let h = a_state s k in record { token = h.token; shallow = omeg
 pub spelled_at : {V : Type 0} (Valid : V → Type 0) (encode : V → Token) → ((v : V) → Valid v → IsTree (encode v)) → (b : List ℕ) (t : Token) (o : Option V) → IsTree t × (b ≡ spelling t) → Spells Valid encode t o → Spells Valid (λ v. spelling (encode v)) b o
 spelled_at Valid encode within b t None is none = λ v k e. none v k (one_spelling t (encode v) is.0 (within v k) (sym is.1 ∙ e))
 spelled_at Valid encode within b t (Some v) is found = (found.0, is.1 ∙ ap spelling found.1)
+
+-- a text that is read as a value is read as the value whose text it is
+pub again : {V : Type 0} (Valid : V → Type 0) (encode : V → Token) → ((v : V) → Valid v → IsTree (encode v)) → ((u v : V) → Valid u → Valid v → encode u ≡ encode v → u ≡ v)
+    → (b : List ℕ) (o : Option V) (v : V) → Spells Valid (λ v. spelling (encode v)) b o → Valid v → b ≡ spelling (encode v) → o ≡ Some v
+again Valid encode within one b o v h k is =
+    value-Spells Valid (λ v. spelling (encode v)) (λ u w j l e. one u w j l (one_spelling (encode u) (encode w) (within u j) (within w l) e)) b o v h k is

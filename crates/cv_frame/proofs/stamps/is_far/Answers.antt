@@ -36,4 +36,4 @@ pub returns : goal.returns
 returns c =
     rw c.is_some.ensures
     (far_told _ _ _ _ _ _ c.in-Some-number_of.stamp c.in_ok-frame_read.field-0 c.in-Some.ensures.0 c.in-Some.ensures.1 c.in-Some-split_last.ensures.0 c.in-Some-split_last.ensures.1 c.in-Some-number_of.ensures.1 c.if-stamp-lt-COUNTS.false c.in-Some-number_of.ensures.0
-    (c.deref.ensures.value ∙ c.in_ok-near.ensures ∙ append_assoc c.in-Some-split_last.before.now (58 ∷ 48 ∷ 44 ∷ []) c.in-Some.behind.now ∙ sym (append_assoc c.in-Some-split_last.before.now (58 ∷ 48 ∷ []) (44 ∷ c.in-Some.behind.now))) c.in_ok-frame_read.ensures)
+    (c.deref.ensures.value ∙ c.in_ok-near.ensures ∙ append_assoc c.in-Some-split_last.before.now (58 ∷ 48 ∷ 44 ∷ []) c.in-Some.behind.now ∙ sym (append_assoc c.in-Some-split_last.before.now (58 ∷ 48 ∷ []) (44 ∷ c.in-Some.behind.now))) c.in_ok-frame_read.ensures.exact)

@@ -4,7 +4,7 @@ use Rattle.cv_frame.proofs.format.WireFormat.judge.Goals as goal
 
 pub returns-in-Some-2-clause-message : goal.returns-in-Some-2-clause-message
 returns-in-Some-2-clause-message c =
-    let found = rw c.in-Some-2.is at c.in_ok-frame.ensures in
+    let found = rw c.in-Some-2.is at c.in_ok-frame.ensures.exact in
     (omega arith, front_within _ _ _ c.in-Some.ensures.1 c.if-rest-len.false, read_at _ _ _ _ c.in-Some.ensures.1 c.if-rest-len.false (omega arith) found.0 found.1)
 
 pub returns-in-None-clause-fault : goal.returns-in-None-clause-fault
@@ -16,7 +16,7 @@ returns-in-None-clause-fault c = (
 
 pub returns-in-None-2-clause-fault : goal.returns-in-None-2-clause-fault
 returns-in-None-2-clause-fault c =
-    let none = rw c.in-None-2.is at c.in_ok-frame.ensures in (
+    let none = rw c.in-None-2.is at c.in_ok-frame.ensures.exact in (
       _,
       begins_at c.args.bytes.now c.in-Some.rest.now c.in-Some.len c.in-Some.ensures.1 c.if-rest-len.false (omega arith),
       λ k. none k.f k.frame k.is,
