@@ -229,14 +229,18 @@ mod tests {
     #[test]
     fn endless_sources_take_turns(rt: HostRuntime) -> Result<(), Fail> {
         let alloc = rt.alloc();
-        let script = "a:std.Constant(data=1,n=-1)b:std.Constant(data=2,n=-1)p:io.Print()q:io.Print()a.token>p.token b.token>q.token";
+        let script =
+            "a:std.Constant(data=1,n=-1)b:std.Constant(data=2,n=-1)p:io.Print()q:io.Print()a.token>p.token b.token>q.token";
         let bytes = Vec::from_slice(alloc, script.as_bytes())?;
         let mut source = MemSource::new(bytes, 7, Vec::new(alloc));
         let mut sink = MemSink::new(alloc, 5, Vec::new(alloc));
         let words = ["run", "--firings", "20"];
         assert_eq!(rt; status(&rt, alloc, &words, &mut source, &mut sink)?, 0);
         assert!(rt; sink.bytes().starts_with("p 1\n".as_bytes()));
-        assert!(rt; sink.bytes().ends_with("q 2\nfirings 20\nend spent\n".as_bytes()));
+        assert!(rt;
+            sink.bytes()
+                .ends_with("q 2\nfirings 20\nend spent\n".as_bytes())
+        );
         Ok(())
     }
 
