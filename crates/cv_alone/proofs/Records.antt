@@ -8,8 +8,8 @@ use Rattle.cv_protocol.specs.declared.event.Journal.{Journal}
 use Rattle.cv_protocol.specs.declared.event.Record.{Record}
 use Rattle.cv_protocol.specs.NodeState.{NodeState, opening}
 use Rattle.cv_protocol.specs.Journals.{replay, IsRecordOf}
-use Rattle.cv_journal.specs.Journalled.{Journalled, IsReplay}
-use Rattle.cv_merged.specs.Lanes.{journal_at}
+use Rattle.cv_node.specs.Journalled.{Journalled, IsReplay}
+use Rattle.cv_merge.specs.Lanes.{journal_at}
 use Rattle.cv_alone.specs.declared.alone.Stop.{Stop}
 use Rattle.cv_alone.specs.declared.alone.Stop.TheVariants.{Spent, Quiescent}
 use Rattle.cv_alone.specs.Going.{GoesOn}

@@ -4,7 +4,7 @@ use Rattle.cv_protocol.specs.declared.event.Event.TheVariants as event
 use Rattle.cv_protocol.specs.declared.event.Sent.TheVariants as sent
 use Rattle.cv_protocol.specs.NodeState.{NodeState}
 use Rattle.cv_protocol.specs.NodeRow.{row}
-use Rattle.cv_journal.specs.Journalled.{Journalled, Steps}
+use Rattle.cv_node.specs.Journalled.{Journalled, Steps}
 use Rattle.cv_alone.specs.Going.{GoesOn, journal_length}
 use Rattle.cv_alone.specs.Resting.{AllWait, Quiet, conn_id}
 use Rattle.cv_alone.proofs.Sweeps.{goes_on_entry, longer_by_entry}

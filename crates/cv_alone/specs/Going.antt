@@ -7,8 +7,8 @@ use Rattle.cv_protocol.specs.declared.event.Event.{Event}
 use Rattle.cv_protocol.specs.declared.event.Event.TheVariants as event
 use Rattle.cv_actor.specs.declared.act.Polled.{Polled}
 use Rattle.cv_actor.specs.declared.act.Polled.TheVariants as polled
-use Rattle.cv_journal.specs.Journalled.{Journalled}
-use Rattle.cv_journal.specs.Polls.{HasPolled}
+use Rattle.cv_node.specs.Journalled.{Journalled}
+use Rattle.cv_node.specs.Polls.{HasPolled}
 use Rattle.cv_alone.specs.declared.sweep.Swept.{Swept}
 use Rattle.cv_alone.specs.Resting.{until_from}
 

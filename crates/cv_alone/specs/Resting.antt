@@ -9,7 +9,7 @@ use Rattle.cv_protocol.specs.declared.poll.Need.{Need}
 use Rattle.cv_protocol.specs.declared.poll.Need.TheVariants as need
 use Rattle.cv_protocol.specs.NodeRow.{row}
 use Rattle.cv_protocol.specs.NodeState.{NodeState}
-use Rattle.cv_journal.specs.Polls.{Waits}
+use Rattle.cv_node.specs.Polls.{Waits}
 
 -- the application of the run, and the identifiers within it
 abbrev pub run_app : AppId

@@ -1,6 +1,6 @@
 -- What a turn of a run does.
 use Rattle.std.specs.Prelude.{◌≡◌, ℕ, ◌<◌, ◌≤◌, length, Option, Some, None}
-use Rattle.cv_journal.specs.Journalled.{Journalled}
+use Rattle.cv_node.specs.Journalled.{Journalled}
 use Rattle.cv_alone.specs.Going.{GoesOn}
 use Rattle.cv_alone.specs.Resting.{Quiet}
 

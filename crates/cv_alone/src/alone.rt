@@ -8,9 +8,9 @@ ghost use Rattle.cv_alone.specs.Resting.{Quiet};
 ghost use Rattle.cv_alone.specs.Turns.{Turns};
 
 use crate::sweep::{pass_all, poll_all, tick};
-use cv_journal::Node;
 use cv_kinds::Network;
-use cv_merged::merge;
+use cv_merge::merge;
+use cv_node::Node;
 use cv_protocol::{Event, Record};
 use cv_rules::{Attrs, NodeSpec};
 use cv_token::{OutOfMemory, Pair, Text};

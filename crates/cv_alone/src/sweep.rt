@@ -4,13 +4,13 @@ ghost use Rattle.std.specs.Prelude.{◌≡◌, ◌≤◌, ◌<◌, ◌-◌, ◌^
 ghost use Rattle.cv_protocol.specs.declared.event.Event.TheVariants as event;
 ghost use Rattle.cv_protocol.specs.declared.event.Sent.TheVariants as sent;
 ghost use Rattle.cv_protocol.specs.NodeRow.{row};
-ghost use Rattle.cv_journal.specs.Journalled.{Steps};
-ghost use Rattle.cv_journal.specs.Polls.{HasPolled};
+ghost use Rattle.cv_node.specs.Journalled.{Steps};
+ghost use Rattle.cv_node.specs.Polls.{HasPolled};
 ghost use Rattle.cv_alone.specs.Going.{GoesOn, Polls, journal_length};
 ghost use Rattle.cv_alone.specs.Resting.{AllWait, actor_id, conn_id, earlier, until_from, until_in};
 
 use cv_actor::Polled;
-use cv_journal::Node;
+use cv_node::Node;
 use cv_protocol::{Event, Need, StepRefusal};
 use cv_token::{ActorId, AppId, ConnId, OutOfMemory};
 use std::alloc::{AllocError, Global};

@@ -10,4 +10,3 @@ pub mod Refusing
 pub mod Segments
 pub mod Single
 pub mod Whole
-pub mod Sharing

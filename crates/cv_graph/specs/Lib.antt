@@ -7,4 +7,3 @@ pub mod Ports
 pub mod Tables
 pub mod Values
 pub mod Ways
-pub mod Readers

@@ -11,10 +11,8 @@ pub mod networks;
 pub mod placing;
 pub mod port;
 mod queues;
-pub mod readers;
 mod values;
 pub mod ways;
 
 pub use fault::GraphFault;
 pub use networks::network;
-pub use readers::has_one_reader;

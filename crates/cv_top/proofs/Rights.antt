@@ -17,8 +17,8 @@ use Rattle.cv_alone.specs.declared.alone.Stop.{Stop}
 use Rattle.cv_alone.specs.Going.{are_own, is_own}
 use Rattle.cv_alone.specs.Recorded.{IsOneNodeRun, first_entry, first_spec, only_first}
 use Rattle.cv_alone.specs.Resting.{run_app}
-use Rattle.cv_merged.specs.Laws.{AreLocalRuns, GotOnlySent}
-use Rattle.cv_merged.proofs.Bridge.{sent_before}
+use Rattle.cv_merge.specs.Laws.{AreLocalRuns, GotOnlySent}
+use Rattle.cv_merge.proofs.Bridge.{sent_before}
 use Rattle.cv_handover.specs.Runs.{IsRun}
 use Rattle.cv_handover.proofs.Alone.{each_opened}
 use Rattle.cv_handover.proofs.Records.{owners_opened}

@@ -1,7 +1,7 @@
 use Rattle.std.proofs.Common.{List, [], ◌∷◌, ◌++◌, map, ap, ◌∙◌, subst}
 use Rattle.cv_protocol.specs.declared.event.Journal.{Journal}
 use Rattle.cv_protocol.specs.Journals.{IsRecordOf}
-use Rattle.cv_merged.specs.Lanes.{journal_at}
+use Rattle.cv_merge.specs.Lanes.{journal_at}
 use Rattle.cv_alone.proofs.Records.{ended, recorded}
 use Rattle.cv_alone.proofs.alone.run_alone.Goals as goal
 

@@ -1,5 +1,5 @@
 use Rattle.std.proofs.Common.{Ok, ap, subst, ◌∙◌}
-use Rattle.cv_journal.specs.Journalled.{Journalled}
+use Rattle.cv_node.specs.Journalled.{Journalled}
 use Rattle.cv_alone.specs.Resting.{AllWait}
 use Rattle.cv_alone.proofs.Turns.{quiet}
 use Rattle.cv_alone.proofs.alone.turn.Goals as goal

@@ -1,5 +1,0 @@
-use Rattle.cv_merged.proofs.Sorting.{record_is_sorted}
-use Rattle.cv_merged.proofs.law.record_is_sorted.Goals as goal
-
-pub returns : goal.returns
-returns c = record_is_sorted
