@@ -6,7 +6,7 @@ folder=$(mktemp -d) || exit 2
 trap 'rm -rf "$folder"' EXIT
 printf 'src : std.Constant(data=7, n=-1)\nmid : std.Identity()\nsnk : io.Print()\nsrc.token > mid.token\nmid.token > snk.token\n' >"$folder/chain"
 head -c 1048576 /dev/zero | tr '\0' ' ' >"$folder/blanks"
-# Scripts of a size in bytes, by a statement that is repeated; the words of a script are read and parsed before it is found Unbuilt.
+# Scripts of a size in bytes, by a statement that is repeated; the words of a script are read and parsed before it is found to mean no network.
 repeated() {
     yes "$1" | head -c "$2" | sed '$d'
 }
