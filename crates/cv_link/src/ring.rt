@@ -13,14 +13,14 @@ use std::alloc::Global;
 /// How many frames a ring holds.
 const FRAMES: usize = 64;
 
-/// The end of a ring that pushes frames.
+/// The end of a ring that pushes frames. It can move to another thread.
 #[derive(Drop)]
 pub struct Tx {
     ring: Producer<Frame>,
     ghost size: { producer_capacity ring ≡ 64 },
 }
 
-/// The end of a ring that takes frames, with the plan of losses.
+/// The end of a ring that takes frames, with the plan of losses. It can move to another thread.
 #[derive(Drop)]
 pub struct Rx {
     ring: Consumer<Frame>,

@@ -145,3 +145,15 @@ fn a_frame_beside_the_ring_is_cut_too(rt: HostRuntime) -> Result<(), Fail> {
     assert_eq!(rt; shown(pair.rx.direct(frame(2))), ('d', 2));
     Ok(())
 }
+
+// A value of this type may be lent to another thread.
+fn may_cross<T: Send>(_value: &mut T) {}
+
+#[test]
+fn ends_may_cross_to_threads(rt: HostRuntime) -> Result<(), Fail> {
+    let Pair { mut tx, mut rx } = Pair::new(rt.alloc(), link(rt.alloc(), &[])?)?;
+    may_cross(&mut tx);
+    may_cross(&mut rx);
+    assert!(rt; rx.take().is_none());
+    Ok(())
+}
