@@ -22,7 +22,7 @@ use Rattle.cv_link.specs.declared.plan.Taken.TheVariants as told
 use Rattle.cv_link.specs.Plan.{frame_of}
 use Rattle.cv_station.specs.declared.station.Peer.{Peer}
 use Rattle.cv_station.specs.declared.station.Station.{Station}
-use Rattle.cv_station.specs.Acts.{By_ring, Comes, Does, IsWork, NodeDoes, PeerWorks, events_in, events_of, is_work, taken_by, told_by}
+use Rattle.cv_station.specs.Acts.{Comes, Does, IsWork, NodeDoes, PeerWorks, events_in, events_of, is_work, taken_by, told_by}
 use Rattle.cv_station.specs.Going.{EachPeer, Gets, Goes, Pushes, Received, Stepped, Takes, only_at}
 use Rattle.cv_station.proofs.Runs.{does_length, does_then, each_append, each_self, each_then, peer_kept, peer_then, runs_none, runs_one, runs_then}
 
@@ -102,7 +102,7 @@ goes_by most s u e sent steps work peers fired quota within room =
     let longer = does_length (e ∷ []) (frames_of sent) s.node u.node does in
     record {
       acts = Does e ∷ [];
-      runs = runs_one false s u (Does e) (frames_of sent) (works_alone e work) (λ h. tt) does peers;
+      runs = runs_one false s u (Does e) (frames_of sent) (works_alone e work) tt (λ h. tt) does peers;
       own = (work, tt);
       counted = omega (arith, fired);
       quota = quota;
@@ -157,17 +157,17 @@ taken_pushed frames ring what p q r first second =
     (subst (λ (ts : List Taken). PeerWorks frames (ring ++ []) ts p r) (append-nil what) (peer_then [] frames ring [] what [] p q r first second))
 
 -- a frame was taken, and then its steps were done
-pub goes_received : (most : ℕ) (failed : Bool) (s t u : Station) (place : ℕ) (what : Taken) → t.node ≡ s.node → t.fired ≡ s.fired → t.quota ≡ s.quota → Takes place (Some what) s.peers.items t.peers.items → Received t what failed u → length s.node.entries + 2 ≤ most → Goes most s failed u
-goes_received most failed s t u place what node fired quota takes did room =
+pub goes_received : (most : ℕ) (failed : Bool) (s t u : Station) (place : ℕ) (what : Taken) → t.node ≡ s.node → t.fired ≡ s.fired → t.quota ≡ s.quota → Takes place (Some what) s.peers.items t.peers.items → Received t what failed u → length s.node.entries + 2 ≤ most → place < length s.peers.items → Goes most s failed u
+goes_received most failed s t u place what node fired quota takes did room inside =
     let does : NodeDoes s.node did.done did.frames u.node = subst (λ (j : Journalled). NodeDoes j did.done did.frames u.node) node did.does in
     let longer = does_length did.done did.frames s.node u.node does in
     let few : length did.done ≤ 2 = omega (arith, events_few what, ap length did.all, length-append did.done did.rest) in
     let none : firing_count_of did.done ≡ 0 = omega (arith, no_firings what, ap firing_count_of did.all, firings_append did.done did.rest) in
-    let peers : EachPeer (λ j p q. PeerWorks did.frames (taken_by j (Comes By_ring place what did.done)) (told_by j (Comes By_ring place what did.done)) p q) s.peers.items u.peers.items =
+    let peers : EachPeer (λ j p q. PeerWorks did.frames (taken_by j (Comes place what did.done)) (told_by j (Comes place what did.done)) p q) s.peers.items u.peers.items =
     each_then (λ j p q. PeerWorks [] (only_at place j (frame_of what)) (only_at place j what) p q) (λ j p q. PeerWorks did.frames [] [] p q) (λ j p q. PeerWorks did.frames (only_at place j (frame_of what)) (only_at place j what) p q) s.peers.items t.peers.items u.peers.items (λ j p q r. taken_pushed did.frames (only_at place j (frame_of what)) (only_at place j what) p q r) takes did.peers in
     record {
-      acts = Comes By_ring place what did.done ∷ [];
-      runs = runs_one failed s u (Comes By_ring place what did.done) did.frames (did.rest, did.all) (λ h. whole_of what did.done did.rest did.all (did.whole h)) does peers;
+      acts = Comes place what did.done ∷ [];
+      runs = runs_one failed s u (Comes place what did.done) did.frames (did.rest, did.all) inside (λ h. whole_of what did.done did.rest did.all (did.whole h)) does peers;
       own = (tt, tt);
       counted = omega (arith, did.fired, fired, none, ap firing_count_of (append-nil did.done));
       quota = did.quota ∙ quota;

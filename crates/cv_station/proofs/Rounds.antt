@@ -19,6 +19,7 @@ round_made failed s u start most here sum few goes =
 runs_from : (failed : Bool) (s u : Station) (acts : List Act) → Runs failed (record s { fired = 0 }) acts u → Runs failed s acts (record u { failed = failed })
 runs_from failed s u acts r = record {
   are_acts = r.are_acts;
+  inside = r.inside;
   whole = r.whole;
   frames = r.frames;
   does = r.does;

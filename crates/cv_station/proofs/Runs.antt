@@ -15,7 +15,7 @@ use Rattle.cv_link.specs.Ring as ends
 use Rattle.cv_link.proofs.Ends.{rx_self, rx_stays, tx_self, tx_stays}
 use Rattle.cv_station.specs.declared.station.Peer.{Peer}
 use Rattle.cv_station.specs.declared.station.Station.{Station}
-use Rattle.cv_station.specs.Acts.{Act, EachAct, IsAct, IsWhole, FirstDoes, NodeDoes, TellsAll, PeerWorks, Runs, events_in, taken_by, told_by}
+use Rattle.cv_station.specs.Acts.{Act, EachAct, IsAct, IsInside, IsWhole, FirstDoes, NodeDoes, TellsAll, PeerWorks, Runs, events_in, taken_by, told_by}
 use Rattle.cv_station.specs.Going.{EachPeer, Pushes}
 
 -- 1. Lists of acts, of steps and of frames
@@ -156,6 +156,7 @@ flat_one f a = append-nil (f a)
 pub runs_none : (failed : Bool) (s u : Station) → u.node ≡ s.node → Pushes [] s.peers.items u.peers.items → Runs failed s [] u
 runs_none failed s u node peers = record {
   are_acts = tt;
+  inside = tt;
   whole = λ h. tt;
   frames = [];
   does = (node, refl);
@@ -164,9 +165,10 @@ runs_none failed s u node peers = record {
 }
 
 -- one act
-pub runs_one : (failed : Bool) (s u : Station) (a : Act) (frames : List Frame) → IsAct a → (failed ≡ false → IsWhole a) → NodeDoes s.node (events_in a) frames u.node → EachPeer (λ j p q. PeerWorks frames (taken_by j a) (told_by j a) p q) s.peers.items u.peers.items → Runs failed s (a ∷ []) u
-runs_one failed s u a frames is whole does peers = record {
+pub runs_one : (failed : Bool) (s u : Station) (a : Act) (frames : List Frame) → IsAct a → IsInside (length s.peers.items) a → (failed ≡ false → IsWhole a) → NodeDoes s.node (events_in a) frames u.node → EachPeer (λ j p q. PeerWorks frames (taken_by j a) (told_by j a) p q) s.peers.items u.peers.items → Runs failed s (a ∷ []) u
+runs_one failed s u a frames is inside whole does peers = record {
   are_acts = (is, tt);
+  inside = (inside, tt);
   whole = λ h. (whole h, tt);
   frames = frames;
   does = subst (λ (es : List Event). NodeDoes s.node es frames u.node) (sym (flat_one events_in a)) does;
@@ -186,6 +188,7 @@ joined j xs ys one two p q r first second =
 pub runs_then : (failed : Bool) (s t u : Station) (xs ys : List Act) → Runs false s xs t → Runs failed t ys u → Runs failed s (xs ++ ys) u
 runs_then failed s t u xs ys first second = record {
   are_acts = each_append IsAct xs ys first.are_acts second.are_acts;
+  inside = each_append (IsInside (length s.peers.items)) xs ys first.inside (subst (λ (n : ℕ). EachAct (IsInside n) ys) first.as_many second.inside);
   whole = λ h. each_append IsWhole xs ys (first.whole refl) (second.whole h);
   frames = first.frames ++ second.frames;
   does = subst (λ (es : List Event). NodeDoes s.node es (first.frames ++ second.frames) u.node) (sym (flat_map-append events_in xs ys)) (does_then (flat_map events_in xs) (flat_map events_in ys) first.frames second.frames s.node t.node u.node first.does second.does);

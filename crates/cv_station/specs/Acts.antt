@@ -1,5 +1,5 @@
 -- What changes a station, act by act: its node's steps, the frames that it takes and those that it pushes.
-use Rattle.std.specs.Prelude.{◌≡◌, ℕ, ◌==◌, ◌⊎◌, Bool, true, false, if◌then◌else◌, List, [], ◌∷◌, ◌++◌, length, slice_get, Some, None, Contains}
+use Rattle.std.specs.Prelude.{◌≡◌, ℕ, ◌<◌, ◌==◌, ◌⊎◌, Bool, true, false, if◌then◌else◌, List, [], ◌∷◌, ◌++◌, length, slice_get, Some, None, Contains}
 use Rattle.std.specs.List.{flat_map}
 use Rattle.cv_protocol.specs.declared.event.Event.{Event}
 use Rattle.cv_protocol.specs.declared.event.Event.TheVariants as event
@@ -18,15 +18,10 @@ use Rattle.cv_station.specs.declared.station.Station.{Station}
 
 -- 1. Acts
 
--- how a frame came: through the ring, or from hand to hand while nobody works
-pub data Way : Type 0 where
-  By_ring : Way
-  By_hand : Way
-
 -- one step of the node by itself; or a frame that came from the peer at that place, with what was told of it and the steps that it made
 pub data Act : Type 0 where
   Does : Event → Act
-  Comes : Way → (peer : ℕ) → Taken → (done : List Event) → Act
+  Comes : (peer : ℕ) → Taken → (done : List Event) → Act
 
 -- the steps that a frame makes of which this was told
 abbrev pub events_of : Taken → List Event
@@ -36,28 +31,32 @@ events_of (told.Lost f) = event.Lose f ∷ []
 
 abbrev pub events_in : Act → List Event
 events_in (Does e) = e ∷ []
-events_in (Comes way peer told done) = done
+events_in (Comes peer told done) = done
 
 -- what was told of the frames of the peer at place j
 abbrev pub told_by : ℕ → Act → List Taken
 told_by j (Does e) = []
-told_by j (Comes way peer told done) = if peer == j then told ∷ [] else []
+told_by j (Comes peer told done) = if peer == j then told ∷ [] else []
 
 -- the frames that came through the ring of the peer at place j
 abbrev pub taken_by : ℕ → Act → List Frame
 taken_by j (Does e) = []
-taken_by j (Comes By_ring peer told done) = if peer == j then frame_of told ∷ [] else []
-taken_by j (Comes By_hand peer told done) = []
+taken_by j (Comes peer told done) = if peer == j then frame_of told ∷ [] else []
 
 -- the frame made all its steps
 abbrev pub IsWhole : Act → Type 0
 IsWhole (Does e) = Unit {0}
-IsWhole (Comes way peer told done) = done ≡ events_of told
+IsWhole (Comes peer told done) = done ≡ events_of told
+
+-- the frame came from a place where a peer is
+abbrev pub IsInside : ℕ → Act → Type 0
+IsInside many (Does e) = Unit {0}
+IsInside many (Comes peer told done) = peer < many
 
 -- the node's own step gets no frame; a frame makes its steps, or a first part of them
 abbrev pub IsAct : Act → Type 0
 IsAct (Does e) = got_frame e ≡ None
-IsAct (Comes way peer told done) = (rest : List Event) × (events_of told ≡ done ++ rest)
+IsAct (Comes peer told done) = (rest : List Event) × (events_of told ≡ done ++ rest)
 
 -- what a node does by itself in a round
 abbrev pub is_work : Event → Bool
@@ -79,7 +78,7 @@ is_work (event.Deliver f) = false
 
 abbrev pub IsWork : Act → Type 0
 IsWork (Does e) = is_work e ≡ true
-IsWork (Comes way peer told done) = Unit {0}
+IsWork (Comes peer told done) = Unit {0}
 
 abbrev pub EachAct : (Act → Type 0) → List Act → Type 0
 EachAct P [] = Unit {0}
@@ -119,6 +118,7 @@ pub record PeerWorks (frames : List Frame) (ring : List Frame) (tellings : List 
 -- the station s becomes u by these acts, in their order, where memory was wanting or was not
 pub record Runs (failed : Bool) (s : Station) (acts : List Act) (u : Station) : Type 0 where
   pub are_acts : EachAct IsAct acts
+  pub inside : EachAct (IsInside (length s.peers.items)) acts
   pub whole : failed ≡ false → EachAct IsWhole acts
   pub frames : List Frame
   pub does : NodeDoes s.node (flat_map events_in acts) frames u.node

@@ -45,7 +45,8 @@ impl Station {
     fn take(&mut self, alloc: Global, place: usize, most: usize) -> Result<bool, OutOfMemory>
         requires place { place < length self.old.peers.items }
         requires room { length self.old.node.entries + 2 ≤ most }
-        ensures { Goes most self.old (is_err result) self.new }
+        ensures goes { Goes most self.old (is_err result) self.new }
+        ensures fired { self.new.fired ≡ self.old.fired }
     {
         let Some(told) = self.pop(place) else {
             return Ok(false);
@@ -58,7 +59,8 @@ impl Station {
     #[tactic(auto, using(crate::proofs::Goes::goes_none, crate::proofs::Goes::goes_then))]
     fn take_all(&mut self, alloc: Global, place: usize, most: usize) -> Result<(), OutOfMemory>
         requires { place < length self.old.peers.items }
-        ensures { Goes most self.old (is_err result) self.new }
+        ensures goes { Goes most self.old (is_err result) self.new }
+        ensures fired { self.new.fired ≡ self.old.fired }
     {
         for _frame in 0..MOST_FRAMES {
             if most - self.entries().min(most) < MOST_ENTRIES || !self.take(alloc, place, most)? {
@@ -70,8 +72,9 @@ impl Station {
 
     /// Delivers what all peers have pushed.
     #[tactic(auto, using(crate::proofs::Goes::goes_none, crate::proofs::Goes::goes_then))]
-    pub(crate) fn deliver_all(&mut self, alloc: Global, most: usize) -> Result<(), OutOfMemory>
-        ensures { Goes most self.old (is_err result) self.new }
+    pub fn deliver_all(&mut self, alloc: Global, most: usize) -> Result<(), OutOfMemory>
+        ensures goes { Goes most self.old (is_err result) self.new }
+        ensures fired { self.new.fired ≡ self.old.fired }
     {
         for place in 0..self.peers.len() {
             self.take_all(alloc, place, most)?;

@@ -15,14 +15,14 @@ use std::alloc::{AllocError, Global};
 
 impl Station {
     /// How many entries the node's journal has.
-    pub(crate) fn entries(&self) -> usize
+    pub fn entries(&self) -> usize
         ensures { result ≡ length self.now.node.entries }
     {
         self.node.journal().entries.len()
     }
 
     /// Does the event, and pushes the frames that it sends. A refused event changes nothing.
-    pub(crate) fn step(&mut self, alloc: Global, event: Event) -> Result<(), StepRefusal>
+    pub fn step(&mut self, alloc: Global, event: Event) -> Result<(), StepRefusal>
         ensures done { OnOk result (Stepped self.old event self.new) }
         ensures err { OnErr result (self.new ≡ self.old) }
     {
