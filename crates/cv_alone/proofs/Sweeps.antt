@@ -13,10 +13,11 @@ use Rattle.cv_protocol.specs.NodeState.{NodeState}
 use Rattle.cv_protocol.specs.NodeRow.{row}
 use Rattle.cv_actor.specs.declared.act.Polled.{Polled}
 use Rattle.cv_actor.specs.declared.act.Polled.TheVariants as polled
+use Rattle.cv_node.specs.Counts.{firing_count, is_firing, journal_length}
 use Rattle.cv_node.specs.Journalled.{Journalled, Steps, entry_of_row}
 use Rattle.cv_node.specs.Polls.{HasPolled, Waits}
 use Rattle.cv_alone.specs.declared.sweep.Swept.{Swept}
-use Rattle.cv_alone.specs.Going.{GoesOn, Polls, are_own, firing_count, is_firing, is_own, journal_length, swept_by}
+use Rattle.cv_alone.specs.Going.{GoesOn, Polls, are_own, is_own, swept_by}
 use Rattle.cv_alone.specs.Resting.{AllWait, WaitsFor, actor_id, conn_id, earlier, is_untimed, until_from, until_in, waits_for_none}
 
 -- 1. Going on

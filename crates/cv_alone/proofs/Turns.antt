@@ -4,8 +4,9 @@ use Rattle.cv_protocol.specs.declared.event.Event.TheVariants as event
 use Rattle.cv_protocol.specs.declared.event.Sent.TheVariants as sent
 use Rattle.cv_protocol.specs.NodeState.{NodeState}
 use Rattle.cv_protocol.specs.NodeRow.{row}
+use Rattle.cv_node.specs.Counts.{journal_length}
 use Rattle.cv_node.specs.Journalled.{Journalled, Steps}
-use Rattle.cv_alone.specs.Going.{GoesOn, journal_length}
+use Rattle.cv_alone.specs.Going.{GoesOn}
 use Rattle.cv_alone.specs.Resting.{AllWait, Quiet, conn_id}
 use Rattle.cv_alone.proofs.Sweeps.{goes_on_entry, longer_by_entry}
 

@@ -1,5 +1,5 @@
 -- How the run of one node goes on.
-use Rattle.std.specs.Prelude.{◌≡◌, ℕ, ◌+◌, ◌≤◌, ◌^◌, Bool, true, false, List, ◌++◌, length, count_by}
+use Rattle.std.specs.Prelude.{◌≡◌, ℕ, ◌+◌, ◌≤◌, Bool, true, false, List, ◌++◌, length}
 use Rattle.std.specs.List.{list_all}
 use Rattle.cv_token.specs.declared.identifiers.ActorId.{ActorId}
 use Rattle.cv_protocol.specs.declared.event.Entry.{Entry}
@@ -7,6 +7,7 @@ use Rattle.cv_protocol.specs.declared.event.Event.{Event}
 use Rattle.cv_protocol.specs.declared.event.Event.TheVariants as event
 use Rattle.cv_actor.specs.declared.act.Polled.{Polled}
 use Rattle.cv_actor.specs.declared.act.Polled.TheVariants as polled
+use Rattle.cv_node.specs.Counts.{firing_count, journal_length}
 use Rattle.cv_node.specs.Journalled.{Journalled}
 use Rattle.cv_node.specs.Polls.{HasPolled}
 use Rattle.cv_alone.specs.declared.sweep.Swept.{Swept}
@@ -30,33 +31,8 @@ is_own (event.Destroy app) = false
 is_own (event.Lose f) = false
 is_own (event.Deliver f) = false
 
-abbrev pub is_firing : Event → Bool
-is_firing (event.Fire a action) = true
-is_firing (event.Tick now) = false
-is_firing (event.Peek a port) = false
-is_firing (event.Pass conn) = false
-is_firing (event.Meet node attrs) = false
-is_firing (event.Deploy name net) = false
-is_firing (event.Send conn) = false
-is_firing (event.Rewind conn) = false
-is_firing (event.Freeze a to) = false
-is_firing (event.Resend a) = false
-is_firing (event.Withdraw a) = false
-is_firing (event.Hint a attempt node) = false
-is_firing (event.Destroy app) = false
-is_firing (event.Lose f) = false
-is_firing (event.Deliver f) = false
-
--- the number of firings among the entries
-abbrev pub firing_count : List Entry → ℕ
-firing_count entries = count_by (λ (e : Entry). is_firing e.event) entries
-
 abbrev pub are_own : List Entry → Bool
 are_own entries = list_all (λ (e : Entry). is_own e.event) entries
-
--- the most entries of a journal
-abbrev pub journal_length : ℕ
-journal_length = 2 ^ 30
 
 -- a node went on by itself with so many firings
 pub record GoesOn (old new : Journalled) (fired : ℕ) : Type 0 where

@@ -9,7 +9,8 @@ use Rattle.cv_protocol.specs.NodeState.{NodeState, opening}
 use Rattle.cv_protocol.specs.Journals.{replay, IsRecordOf}
 use Rattle.cv_alone.specs.declared.alone.Stop.{Stop}
 use Rattle.cv_alone.specs.declared.alone.Stop.TheVariants.{Spent, Quiescent}
-use Rattle.cv_alone.specs.Going.{are_own, firing_count}
+use Rattle.cv_node.specs.Counts.{firing_count}
+use Rattle.cv_alone.specs.Going.{are_own}
 use Rattle.cv_alone.specs.Resting.{Quiet}
 
 -- node 1: its number, how many actors it takes, how many tokens of a connection may be on their way, and its name

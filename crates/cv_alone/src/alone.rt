@@ -2,7 +2,8 @@
 
 ghost use Rattle.std.specs.Prelude.{◌≡◌, ◌<◌, ◌≤◌, ℕ, [], ◌∷◌, length, codes, Ok, IfOk};
 ghost use Rattle.cv_protocol.specs.NodeState.{opening};
-ghost use Rattle.cv_alone.specs.Going.{GoesOn, journal_length};
+ghost use Rattle.cv_node.specs.Counts.{journal_length};
+ghost use Rattle.cv_alone.specs.Going.{GoesOn};
 ghost use Rattle.cv_alone.specs.Recorded.{IsOneNodeRun, first_entry, first_spec};
 ghost use Rattle.cv_alone.specs.Resting.{Quiet};
 ghost use Rattle.cv_alone.specs.Turns.{Turns};

@@ -4,19 +4,17 @@ ghost use Rattle.std.specs.Prelude.{◌≡◌, ◌≤◌, ◌<◌, ◌-◌, ◌^
 ghost use Rattle.cv_protocol.specs.declared.event.Event.TheVariants as event;
 ghost use Rattle.cv_protocol.specs.declared.event.Sent.TheVariants as sent;
 ghost use Rattle.cv_protocol.specs.NodeRow.{row};
+ghost use Rattle.cv_node.specs.Counts.{journal_length};
 ghost use Rattle.cv_node.specs.Journalled.{Steps};
 ghost use Rattle.cv_node.specs.Polls.{HasPolled};
-ghost use Rattle.cv_alone.specs.Going.{GoesOn, Polls, journal_length};
+ghost use Rattle.cv_alone.specs.Going.{GoesOn, Polls};
 ghost use Rattle.cv_alone.specs.Resting.{AllWait, actor_id, conn_id, earlier, until_from, until_in};
 
 use cv_actor::Polled;
-use cv_node::Node;
+use cv_node::{JOURNAL_LENGTH, Node};
 use cv_protocol::{Event, Need, StepRefusal};
 use cv_token::{ActorId, AppId, ConnId, OutOfMemory};
 use std::alloc::{AllocError, Global};
-
-/// How many entries a journal holds at most; a growth past that is want of memory.
-const JOURNAL_LENGTH: usize = 1 << 30;
 
 /// The application of the run.
 const APP: AppId = AppId { node: 1, seq: 1 };

@@ -3,4 +3,4 @@
 
 pub mod node;
 
-pub use node::Node;
+pub use node::{JOURNAL_LENGTH, Node};

@@ -17,6 +17,9 @@ use cv_token::{ActorId, OutOfMemory};
 use std::alloc::Global;
 use std::marker::Model;
 
+/// How many entries a journal holds at most; a growth past that is want of memory.
+pub const JOURNAL_LENGTH: usize = 1 << 30;
+
 /// A node. Contracts see the state that it began with, its state and its entries; the state is what the entries leave of the
 /// first one.
 #[derive(Drop)]

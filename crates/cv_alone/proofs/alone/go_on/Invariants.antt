@@ -1,5 +1,6 @@
 use Rattle.std.proofs.Common.{◌-◌, ◌≤◌, length}
-use Rattle.cv_alone.specs.Going.{GoesOn, journal_length}
+use Rattle.cv_node.specs.Counts.{journal_length}
+use Rattle.cv_alone.specs.Going.{GoesOn}
 use Rattle.cv_alone.proofs.alone.go_on.Given as goal
 
 abbrev pub invariant-loop-left : goal.invariant-loop-left

@@ -1,0 +1,4 @@
+pub mod Goes
+pub mod Pushes
+pub mod Rounds
+pub mod Runs
