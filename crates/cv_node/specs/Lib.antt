@@ -1,2 +1,3 @@
 pub mod Journalled
 pub mod Polls
+pub mod Seeing
