@@ -49,7 +49,10 @@ fn network(alloc: Global, tokens: i64) -> Result<Network, OutOfMemory> {
     actors.push(snk)?;
     let mut joins = Vec::new(alloc);
     joins.push(JOIN)?;
-    Ok(Network::new(actors, joins))
+    match Network::of(alloc, actors, joins)? {
+        Some(net) => Ok(net),
+        None => Err(AllocError),
+    }
 }
 
 fn node(alloc: Global, no: u16) -> Result<Node, OutOfMemory> {
