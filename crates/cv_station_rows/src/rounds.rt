@@ -10,7 +10,7 @@ use cv_rules::{Attrs, NodeSpec};
 use cv_station::{Peer, Station};
 use cv_token::{ActorId, AppId, Items, OutOfMemory, Text, Token};
 use sqlite_items::Boxed;
-use std::alloc::Global;
+use std::alloc::{AllocError, Global};
 use std::process::Abort;
 use std::test::Fail;
 
