@@ -1,9 +1,10 @@
 //! `Node`: a state with the journal that led to it.
 
-ghost use Rattle.std.specs.Prelude.{◌≡◌, ◌<◌, ◌≤◌, true, [], ◌∷◌, ◌++◌, length, slice_get, vec_len, vec_capacity, IfOk, IfErr, OnOk, OnErr};
+ghost use Rattle.std.specs.Prelude.{◌≡◌, ◌<◌, ◌≤◌, true, [], ◌∷◌, ◌++◌, length, slice_get, vec_len, vec_capacity, is_none, unwrap_or, IfOk, IfErr, OnOk, OnErr};
 ghost use Rattle.std.specs.List.{list_all};
 ghost use Rattle.std.specs.Option.{option_copied, option_map};
 ghost use Rattle.std.specs.FinMap as map;
+ghost use Rattle.cv_protocol.specs.declared.refusal.StepRefusal.TheVariants as refusal;
 ghost use Rattle.cv_protocol.specs.NodeState.{opening};
 ghost use Rattle.cv_protocol.specs.NodeRow.{cause_of};
 ghost use Rattle.cv_protocol.specs.Rows.{is_node};
@@ -105,20 +106,43 @@ impl Node {
         })
     }
 
-    /// Does one row and appends its entry; tells the frames that it sends. A refused event changes nothing.
+    /// Does one row and appends its entry; tells the frames that it sends. A refused event changes nothing, and is answered with its
+    /// cause; want of memory is told only where it has none.
     pub fn step(&mut self, alloc: Global, event: Event) -> Result<Sent, StepRefusal>
         ensures done { IfOk result (λ sent. Steps self.old event sent self.new) }
         ensures cause { IfErr result (Refuses (cause_of self.old.state event)) }
+        ensures told { IfErr result (λ e. e ≡ unwrap_or (cause_of self.old.state event) refusal.OutOfMemory) }
         ensures err { OnErr result (self.new ≡ self.old) }
     {
-        make_room(&mut self.journal.entries)?;
+        if make_room(&mut self.journal.entries).is_err() {
+            return Err(self.wanting(&event));
+        }
         match self.state.apply(alloc, &event) {
             Ok(sent) => {
                 append(&mut self.journal.entries, self.state.stamp(), event);
                 Ok(sent)
             }
+            Err(StepRefusal::OutOfMemory) => Err(self.wanting(&event)),
             Err(cause) => Err(cause),
         }
+    }
+
+    /// How an event is refused for which memory was wanting: with its cause, where it has one.
+    fn wanting(&self, event: &Event) -> StepRefusal
+        ensures told { result ≡ unwrap_or (cause_of self.now.state event.now) refusal.OutOfMemory }
+        ensures cause { Refuses (cause_of self.now.state event.now) result }
+    {
+        match self.state.cause(event) {
+            Some(cause) => cause,
+            None => StepRefusal::OutOfMemory,
+        }
+    }
+
+    /// Whether the event would be refused for no cause but want of memory. It takes no memory.
+    pub fn enabled(&self, event: &Event) -> bool
+        ensures { result ≡ is_none (cause_of self.now.state event.now) }
+    {
+        self.state.cause(event).is_none()
     }
 
     /// Polls a live actor: its first action that lacks nothing fires, or an inport is read; where each action lacks something,
@@ -126,6 +150,7 @@ impl Node {
     pub fn poll(&mut self, alloc: Global, actor: ActorId) -> Result<Polled, StepRefusal>
         ensures done { IfOk result (λ polled. HasPolled self.old actor polled self.new) }
         ensures cause { IfErr result (Refuses (poll_cause self.old.state actor)) }
+        ensures told { IfErr result (λ e. e ≡ unwrap_or (poll_cause self.old.state actor) refusal.OutOfMemory) }
         ensures err { OnErr result (self.new ≡ self.old) }
     {
         match self.state.outlook(actor)? {

@@ -64,9 +64,12 @@ offered s stamp sender conn a n t l inp h port p ends answer b what here is join
     let frames = sent ∙ ap (λ (x : Body). frame_to s stamp sender x ∷ []) said in
     subst (λ (d : Did). Does d (record s { live = map.insert s.live a (with_inport l inp p) }) what) (sym (offers s stamp sender conn a n t l inp h here)) (next, frames, sym (ap (λ (q : InView). nat_lt (received (after_offer q n t)) limit) is) ∙ sym fits)
 
+-- whether its numbers fit
+pub offer_fits : (s : NodeState) (stamp sender : ℕ) (conn : ConnId) (a : ActorId) (n : ℕ) (t : Token) (l : LiveState) (inp : ℕ) (h : Seated conn l inp) (port : InView) → Some l ≡ map.get s.live a → port ≡ h.seat.inlet.port → (token_comes s stamp sender conn a n t (map.get s.live a)).fits ≡ nat_lt (received (after_offer port n t)) limit
+offer_fits s stamp sender conn a n t l inp h port here is =
+    ap (λ (d : Did). d.fits) (offers s stamp sender conn a n t l inp h here)
+    ∙ ap (λ (q : InView). nat_lt (received (after_offer q n t)) limit) (sym is)
+
 -- and where its number is spent
 pub offer_spent : (s : NodeState) (stamp sender : ℕ) (conn : ConnId) (a : ActorId) (n : ℕ) (t : Token) (l : LiveState) (inp : ℕ) (h : Seated conn l inp) (port : InView) → Some l ≡ map.get s.live a → port ≡ h.seat.inlet.port → false ≡ nat_lt (received (after_offer port n t)) limit → spent_unless (token_comes s stamp sender conn a n t (map.get s.live a)).fits ≡ Some refusal.StampSpent
-offer_spent s stamp sender conn a n t l inp h port here is late =
-    ap (λ (d : Did). spent_unless d.fits) (offers s stamp sender conn a n t l inp h here)
-    ∙ ap (λ (q : InView). spent_unless (nat_lt (received (after_offer q n t)) limit)) (sym is)
-    ∙ ap spent_unless (sym late)
+offer_spent s stamp sender conn a n t l inp h port here is late = ap spent_unless (offer_fits s stamp sender conn a n t l inp h port here is ∙ sym late)

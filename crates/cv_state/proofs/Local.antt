@@ -69,11 +69,15 @@ peeks s a port count l here polled =
     ∙ ap (peek_at s a l port count) (eq-eqb port port refl)
     ∙ fed_read s a l port count (inlet_at l port) _ refl (poll_holds l s.now port count polled)
 
-pub peek_spent : (s : NodeState) (a : ActorId) (port count : ℕ) (l : LiveState) → map.get s.live a ≡ Some l → poll l s.now ≡ Held port count → nat_lt (s.stamp + 1) limit ≡ false → cause_of s (event.Peek a port) ≡ Some refusal.StampSpent
-peek_spent s a port count l here polled late =
+-- it is refused where its stamp is spent, and else not
+pub peek_decided : (s : NodeState) (a : ActorId) (port count : ℕ) (l : LiveState) → map.get s.live a ≡ Some l → poll l s.now ≡ Held port count → cause_of s (event.Peek a port) ≡ spent_unless (nat_lt (s.stamp + 1) limit)
+peek_decided s a port count l here polled =
     ap (peek_cause s a port) here
     ∙ ap (last_cause (s.stamp + 1) (event.Peek a port)) (ap (peek s a port) (sym here) ∙ peeks s a port count l here polled)
-    ∙ spent (nat_lt (s.stamp + 1) limit) late
+
+pub peek_spent : (s : NodeState) (a : ActorId) (port count : ℕ) (l : LiveState) → map.get s.live a ≡ Some l → poll l s.now ≡ Held port count → nat_lt (s.stamp + 1) limit ≡ false → cause_of s (event.Peek a port) ≡ Some refusal.StampSpent
+peek_spent s a port count l here polled late =
+    peek_decided s a port count l here polled ∙ spent (nat_lt (s.stamp + 1) limit) late
 
 -- 4. Fire
 

@@ -20,7 +20,7 @@ use Rattle.cv_protocol.specs.Actors.{LiveState}
 use Rattle.cv_protocol.specs.Poll.{limit}
 use Rattle.cv_protocol.specs.NodeState.{NodeState}
 use Rattle.cv_protocol.specs.Rows.{Did, Outlet, Passed, Seat, Spot, after_consumer, after_pass, inlet_at, moving, outlet as outlet_of, pass, pass_into, pass_known, pass_to, pass_token, seat_of, with_inlet, with_out, with_port_of}
-use Rattle.cv_protocol.specs.NodeRow.{cause_of, consumer_by, first_cause, is_absent, is_moving, is_bounded, last_cause, row, spot_left, whereabouts}
+use Rattle.cv_protocol.specs.NodeRow.{cause_of, consumer_by, first_cause, is_absent, is_moving, is_bounded, last_cause, row, spent_unless, spot_left, whereabouts}
 use Rattle.cv_actor.specs.Ends.{spot_in}
 use Rattle.cv_actor.specs.Lends.{refilled, with_inport}
 use Rattle.cv_actor.proofs.Found.{put_back}
@@ -29,7 +29,7 @@ use Rattle.cv_state.specs.declared.pass.Passing.{Passing}
 use Rattle.cv_state.specs.declared.pass.Way.{Way as Told}
 use Rattle.cv_state.specs.Outlets.{outlet_in}
 use Rattle.cv_state.specs.Steps.{LeadsTo}
-use Rattle.cv_state.specs.Ways.{Way, acked_at, acked_out, given_at, HasReader, passed_at, passed_by, passing_of, passing_on, received_at, way_from, way_in, way_into, way_of, way_to}
+use Rattle.cv_state.specs.Ways.{Way, acked_at, acked_out, given_at, HasReader, passed_at, passed_by, passing_of, passing_on, received_at, received_in, way_from, way_in, way_into, way_of, way_to}
 use Rattle.cv_state.proofs.Ends.{Stands}
 use Rattle.cv_state.proofs.Local.{leads, spent}
 use Rattle.cv_state.proofs.Outlets.{Has, has}
@@ -324,13 +324,26 @@ does_pass s conn f h p q =
 bounded_by : (s : NodeState) (conn : ConnId) (f : Told) (h : Leads s conn f) (p : Passing) (q : Passes h.way.outlet.spot.port h.way.outlet.spot.number h.way.seat.inlet.port p) (b : Bool) → nat_lt p.received limit && nat_lt (s.stamp + 1) limit ≡ b → is_bounded (s.stamp + 1) (pass_did s h.way q.token) ≡ b
 bounded_by s conn f h p q b e = ap (λ (r : Passing). nat_lt r.received limit && nat_lt (s.stamp + 1) limit) (sym q.is) ∙ e
 
-pub pass_spent : (s : NodeState) (conn : ConnId) (f : Told) (p : Passing) → Some f ≡ option_map way_in (way_of s conn) → Some p ≡ passing_on (way_of s conn) → nat_lt p.received limit && nat_lt (s.stamp + 1) limit ≡ false → cause_of s (event.Pass conn) ≡ Some refusal.StampSpent
-pass_spent s conn f p told there late =
+-- it is refused where a number is spent, and else not
+pub pass_decided : (s : NodeState) (conn : ConnId) (f : Told) (p : Passing) → Some f ≡ option_map way_in (way_of s conn) → Some p ≡ passing_on (way_of s conn) → cause_of s (event.Pass conn) ≡ spent_unless (nat_lt p.received limit && nat_lt (s.stamp + 1) limit)
+pass_decided s conn f p told there =
     let h = leads_on s conn f told in
     let q = way_passes s conn f h p there in
     cause_by_way s conn f h
     ∙ ap (last_cause (s.stamp + 1) (event.Pass conn)) (does_pass s conn f h p q)
-    ∙ spent _ (bounded_by s conn f h p q false late)
+    ∙ ap spent_unless (bounded_by s conn f h p q _ refl)
+
+pub pass_spent : (s : NodeState) (conn : ConnId) (f : Told) (p : Passing) → Some f ≡ option_map way_in (way_of s conn) → Some p ≡ passing_on (way_of s conn) → nat_lt p.received limit && nat_lt (s.stamp + 1) limit ≡ false → cause_of s (event.Pass conn) ≡ Some refusal.StampSpent
+pass_spent s conn f p told there late = pass_decided s conn f p told there ∙ spent _ late
+
+-- what is told of what passes
+pub none_passes : (o : Option Passing) → None ≡ option_map received_in o → None ≡ o
+none_passes None none = refl
+none_passes (Some p) none = absurd (cc)
+
+pub one_passes : (o : Option Passing) (n : ℕ) → Some n ≡ option_map received_in o → (p : Passing) × (Some p ≡ o) × (n ≡ p.received)
+one_passes None n some = absurd (cc)
+one_passes (Some p) n some = (p, refl, let same : n ≡ p.received = cc in same)
 
 pub pass_leads : (s : NodeState) (conn : ConnId) (f : Told) (p : Passing) (next : NodeState) → Some f ≡ option_map way_in (way_of s conn) → Some p ≡ passing_on (way_of s conn) → nat_lt p.received limit && nat_lt (s.stamp + 1) limit ≡ true → next ≡ record (passed_at s (way_of s conn)) { stamp = (passed_at s (way_of s conn)).stamp + 1 } → LeadsTo (row s (event.Pass conn)) next sent.Nothing
 pass_leads s conn f p next told there early is =

@@ -56,6 +56,10 @@ abbrev pub passing_of : OutView → ℕ → InView → Option Passing
 passing_of o reader i =
     if nat_le (acked o reader) (received i) then option_map (passed_by o reader i) (to_move o reader i) else None
 
+-- how many tokens the inport will have received
+abbrev pub received_in : Passing → ℕ
+received_in p = p.received
+
 abbrev pub passing_on : Option Way → Option Passing
 passing_on None = None
 passing_on (Some w) = passing_of w.outlet.spot.port w.outlet.spot.number w.seat.inlet.port

@@ -17,7 +17,7 @@ use cv_token::{ActorId, OutOfMemory};
 use std::alloc::Global;
 
 /// Whether the attempts of all hints are below the limit.
-fn hints_fit(hints: &[Hint]) -> bool
+pub(crate) fn hints_fit(hints: &[Hint]) -> bool
     ensures { result ≡ hints_fit hints.now }
 {
     hints.iter().all(|hint| hint.attempt < LIMIT)

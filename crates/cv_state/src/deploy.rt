@@ -100,14 +100,14 @@ fn hint_all(hints: &mut ActorTable<Location>, app: AppId, node: u16, actors: &[A
 
 impl State {
     /// Whether one application more may be deployed here.
-    fn may_deploy(&self) -> bool
+    pub(crate) fn may_deploy(&self) -> bool
         ensures { result ≡ nat_lt self.now.known.deployed most_applications }
     {
         self.known.deployed() < MOST_APPLICATIONS
     }
 
     /// Whether the first moment of each actor of the network is below the limit.
-    fn is_timely(&self, net: &Network) -> bool
+    pub(crate) fn is_timely(&self, net: &Network) -> bool
         ensures { result ≡ are_due self.now.now net.now.actors }
     {
         are_due(net.actors(), self.moment)

@@ -25,7 +25,7 @@ fn add(frames: &mut Frames, frame: Option<Frame>) -> Result<(), OutOfMemory>
 
 impl State {
     /// Whether the application is known and not destroyed.
-    fn is_living(&self, app: AppId) -> bool
+    pub(crate) fn is_living(&self, app: AppId) -> bool
         ensures { result ≡ is_living (map.get self.now.known.apps app) }
     {
         match self.known.application(app) {

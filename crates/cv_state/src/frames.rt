@@ -33,7 +33,7 @@ impl State {
     }
 
     /// Why an actor is not found that is not frozen here.
-    fn not_frozen(&self, actor: ActorId) -> StepRefusal
+    pub(crate) fn not_frozen(&self, actor: ActorId) -> StepRefusal
         ensures { result ≡ (if is_some (map.get self.now.live actor) then refusal.NotEnabled else refusal.NotHere) }
     {
         if self.live.get(actor).is_some() {

@@ -68,7 +68,7 @@ fn add(hints: &mut Hints, hint: Option<Hint>) -> Result<(), OutOfMemory>
 
 impl State {
     /// Whether the node is another one, and known.
-    fn is_other_known(&self, node: u16) -> bool
+    pub(crate) fn is_other_known(&self, node: u16) -> bool
         ensures { result ≡ is_other_known self.now node }
     {
         node != self.spec.no && self.known.knows(node)

@@ -4,6 +4,8 @@
 mod acks;
 mod apply;
 mod arriving;
+mod causes;
+mod coming;
 mod deliver;
 mod deploy;
 mod destroy;

@@ -14,7 +14,7 @@ use cv_token::{ActorId, OutOfMemory};
 use std::alloc::Global;
 
 /// How many tokens of the inport are to be read.
-fn read_of(outlook: Outlook, port: u8) -> Option<u16>
+pub(crate) fn read_of(outlook: Outlook, port: u8) -> Option<u16>
     ensures { result ≡ read_of port outlook }
 {
     match outlook {
@@ -25,7 +25,7 @@ fn read_of(outlook: Outlook, port: u8) -> Option<u16>
 }
 
 /// Whether the action fires.
-fn is_fire(outlook: Outlook, action: u8) -> bool
+pub(crate) fn is_fire(outlook: Outlook, action: u8) -> bool
     ensures { result ≡ is_fire action outlook }
 {
     match outlook {

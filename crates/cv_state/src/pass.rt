@@ -21,8 +21,8 @@ use std::alloc::Global;
 /// A connection whose two actors live here: where the reader stands, and which inport it feeds.
 #[derive(Clone, Copy)]
 pub(crate) struct Way {
-    outlet: Outlet,
-    inp: u8,
+    pub(crate) outlet: Outlet,
+    pub(crate) inp: u8,
 }
 
 /// What passes: how many tokens the reader will have acknowledged and the inport received, and the token where the inport
@@ -72,7 +72,7 @@ fn next_to_pass(
 
 impl State {
     /// The connection, where its two actors live here.
-    fn way(&self, conn: ConnId) -> Option<Way>
+    pub(crate) fn way(&self, conn: ConnId) -> Option<Way>
         ensures { result ≡ option_map way_in (way_of self.now conn) }
     {
         let outlet = self.outlet(conn)?;
@@ -98,7 +98,7 @@ impl State {
     }
 
     /// Why nothing passes on a connection of which not both actors live here.
-    fn no_way(&self, conn: ConnId) -> StepRefusal
+    pub(crate) fn no_way(&self, conn: ConnId) -> StepRefusal
         requires { way_of self.now conn ≡ None }
         ensures { cause_of self.now (Event.Pass conn) ≡ Some result }
     {

@@ -39,7 +39,7 @@ fn next_token(
 
 impl State {
     /// The other node where the actor was made live, as far as this node knows.
-    fn away(&self, actor: ActorId) -> Option<u16>
+    pub(crate) fn away(&self, actor: ActorId) -> Option<u16>
         ensures { result ≡ away_by self.now.spec.no (map.get self.now.hints actor) }
     {
         let hint = self.hints.get(actor)?;

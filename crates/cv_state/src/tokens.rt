@@ -19,7 +19,7 @@ use cv_token::{ActorId, ConnId, Token};
 use std::alloc::Global;
 
 /// Whether the inport's numbers are below the limit once a token of number `n` was offered to it.
-fn fits_offer(port: &InPort, n: u64) -> bool
+pub(crate) fn fits_offer(port: &InPort, n: u64) -> bool
     ensures value { (t : Token) → result ≡ nat_lt (received (after_offer port.now n t)) limit }
     ensures low { IsTrue result → received port.now < 2 ^ 62 }
 {

@@ -15,7 +15,7 @@ use cv_protocol::{StepRefusal, Verdict};
 use cv_token::{ActorId, AppId, OutOfMemory};
 
 /// Whether the actor was taken.
-fn is_accepted(verdict: Verdict) -> bool
+pub(crate) fn is_accepted(verdict: Verdict) -> bool
     ensures { result ≡ is_accepted verdict }
 {
     match verdict {

@@ -10,6 +10,6 @@ invariant_of-self-in-Ok c =
     let base = base_of i.journal.spec i.noted.items in
     let kept = replays_step base i.state c.apply.new.self i.journal.entries.items c.args.event c.in-Ok.sent c.self.invariant.leaves c.in-Ok.ensures.done in
     let grown = c.append.ensures
-    ∙ ap (λ (es : List Entry). es ++ record { stamp = c.stamp.result; event = c.args.event } ∷ []) c.in_ok-make_room.ensures.items
+    ∙ ap (λ (es : List Entry). es ++ record { stamp = c.stamp.result; event = c.args.event } ∷ []) c.make_room.ensures.items
     ∙ ap (λ (t : ℕ). i.journal.entries.items ++ record { stamp = t; event = c.args.event } ∷ []) c.stamp.ensures in
     subst (λ (es : List Entry). IsJournal base i.journal.spec c.apply.new.self es) (sym grown) (record { leaves = kept; own = c.self.invariant.own })
