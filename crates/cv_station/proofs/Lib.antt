@@ -1,3 +1,4 @@
+pub mod Crossing
 pub mod Goes
 pub mod Pushes
 pub mod Rounds
