@@ -20,5 +20,5 @@ pub use finding::{Spot, reader_among};
 pub use law::comes_back_as_it_left;
 pub use live::{Live, capture, restore};
 pub use numbers::{LIMIT, fits_restored};
-pub use outlook::Outlook;
+pub use outlook::{Outlook, Sight};
 pub use rewinding::Rewinding;

@@ -176,7 +176,7 @@ impl Live {
     }
 
     /// What is seen of an action: the first of what it lacks, the reading that comes first, or that it fires.
-    fn sight(&self, now: u64, action: u8) -> Sight
+    pub fn sight(&self, now: u64, action: u8) -> Sight
         ensures { result ≡ seen (look self.now now action) }
     {
         if let Some(need) = first_short(&self.spec, action, self.ins()) {

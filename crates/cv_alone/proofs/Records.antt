@@ -39,10 +39,10 @@ same_parts : (f g : ℕ → List Entry) (m : Record) → ((i : ℕ) → f i ≡ 
 same_parts f g m same is = record { parts = λ i. is.parts i ∙ same i; next_is_least = is.next_is_least }
 
 -- what the journal and the record say of the run
-pub recorded : (net : Net) (most : ℕ) (stop : Stop) (m : Record) (first now : Journalled) (j : Journal) → first.entries ≡ first_entry net ∷ [] → first.base ≡ opening first_spec → Ended net most stop first now → j.entries.items ≡ now.entries → opening j.spec ≡ now.base → IsReplay now.base now.state now.entries → m.specs ≡ j.spec ∷ [] → IsRecordOf (journal_at (j ∷ [])) m.entries → IsOneNodeRun net most stop m
+pub recorded : (net : Net) (most : ℕ) (stop : Stop) (m : Record) (first now : Journalled) (j : Journal) → first.entries ≡ first_entry net ∷ [] → first.base ≡ opening first_spec → Ended net most stop first now → j.entries.items ≡ now.entries → j.spec ≡ now.base.spec → IsReplay now.base now.state now.entries → m.specs ≡ j.spec ∷ [] → IsRecordOf (journal_at (j ∷ [])) m.entries → IsOneNodeRun net most stop m
 recorded net most stop m first now j begins based e items spec kept specs is =
     let base : now.base ≡ opening first_spec = e.goes_on.based ∙ based in
-    let own_spec : j.spec ≡ first_spec = ap (λ (s : NodeState). s.spec) (spec ∙ base) in
+    let own_spec : j.spec ≡ first_spec = spec ∙ ap (λ (s : NodeState). s.spec) base in
     let entries : now.entries ≡ first_entry net ∷ e.goes_on.more = e.goes_on.appends ∙ ap (λ (es : List Entry). es ++ e.goes_on.more) begins in
     let parts : (i : ℕ) → journal_at (j ∷ []) i ≡ only_first (first_entry net ∷ e.goes_on.more) i = λ i.
     ap (λ (s : NodeSpec). if s.no == i then j.entries.items else []) own_spec ∙ ap (λ (es : List Entry). if 1 == i then es else []) (items ∙ entries) in

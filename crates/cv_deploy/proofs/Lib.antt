@@ -1,4 +1,3 @@
 pub mod Causes
 pub mod Texts
 pub mod Saying
-pub mod Wires

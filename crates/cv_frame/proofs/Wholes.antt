@@ -8,7 +8,8 @@ use Rattle.cv_kinds.specs.Table.{line_of}
 use Rattle.cv_protocol.specs.Actors.{Actor, StateView, IsShaped}
 use Rattle.cv_protocol.specs.declared.state.Hint.{Hint}
 use Rattle.cv_frame.specs.Trees.{hint_tree, inlet_tree, number, out_tree, state_tree, word}
-use Rattle.cv_frame.specs.Values.{AreHints, IsIn, IsOut, IsSpec, IsState, IsWait}
+use Rattle.cv_kinds.specs.WellFormed.{IsSpec}
+use Rattle.cv_frame.specs.Values.{AreHints, IsIn, IsOut, IsState, IsWait}
 
 pub state_made : (t : Token) (r : StateView) (a : Actor) (wait : ℕ) (hints : List Hint) → r.actor ≡ a → r.wait ≡ wait → r.hints ≡ hints
     → IsSpec a.spec → is_state a.spec.kind a.spec.args a.slots ≡ true → IsWait wait → All IsIn a.ins → All IsOut a.outs → IsShaped a.spec.kind (length a.ins) (length a.outs) → AreHints hints

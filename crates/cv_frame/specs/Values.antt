@@ -1,15 +1,14 @@
 -- The values that travel: those of which each part is in its range, its order and its limit.
 use Rattle.std.specs.Prelude.{◌≡◌, ℕ, ◌-◌, ◌<◌, ◌≤◌, ◌^◌, true, List, length, Option, Some, None, All, slice_index_or}
 use Rattle.std.specs.declared.cmp.Ordering.TheVariants.{Less}
-use Rattle.std.specs.Str.{is_utf8}
 use Rattle.cv_token.specs.declared.identifiers.ActorId.{ActorId}
 use Rattle.cv_token.specs.declared.identifiers.AppId.{AppId}
 use Rattle.cv_token.specs.declared.identifiers.ConnId.{ConnId}
 use Rattle.cv_token.specs.declared.token.Token.{Token}
 use Rattle.cv_token.specs.Bounds.{Fits}
 use Rattle.cv_table.specs.Order.{actor_cmp}
-use Rattle.cv_kinds.specs.declared.network.ActorSpec.{ActorSpec}
-use Rattle.cv_kinds.specs.Sorts.{are_args, is_state}
+use Rattle.cv_kinds.specs.Sorts.{is_state}
+use Rattle.cv_kinds.specs.WellFormed.{IsSpec}
 use Rattle.cv_queue.specs.declared.reader.Subscription.{Subscription}
 use Rattle.cv_queue.specs.Ports.{OutView, IsOutPort, IsInPort, out_at, in_at}
 use Rattle.cv_protocol.specs.Actors.{StateView, IsShaped}
@@ -99,11 +98,6 @@ Rise hints = (i : ℕ) → RisesAt hints i
 pub record AreHints (hints : List Hint) : Type 0 where
   pub each : All IsHint hints
   pub rise : Rise hints
-
--- what a network says of an actor: a path, a kind, and arguments of the kind's row
-pub record IsSpec (s : ActorSpec) : Type 0 where
-  pub path : is_utf8 s.path ≡ true
-  pub args : are_args s.kind s.args ≡ true
 
 -- the milliseconds that an actor still waits
 abbrev pub IsWait : ℕ → Type 0

@@ -1,28 +1,26 @@
 //! States that travel, out of their trees.
 
-ghost use Rattle.std.specs.Prelude.{◌≡◌, ◌≢◌, ◌&&◌, ◌↔◌, List, Option, map, length, true, All, IfOk, IsTrue, MatchOption};
+ghost use Rattle.std.specs.Prelude.{◌≡◌, ◌≢◌, ◌↔◌, List, Option, map, length, true, All, IfOk, IsTrue, MatchOption};
 ghost use Rattle.std.specs.declared.cmp.Ordering.TheVariants.{Less};
 ghost use Rattle.cv_token.specs.declared.token.Token.{Token};
 ghost use Rattle.cv_token.specs.declared.token.Token.TheVariants as tree;
 ghost use Rattle.cv_token.specs.Spells.{Spells};
-ghost use Rattle.cv_behave.specs.Values.{has_fit};
-ghost use Rattle.cv_kinds.specs.Sorts.{are_args, are_arguments, is_of, is_state};
-ghost use Rattle.cv_kinds.specs.Table.{taking};
+ghost use Rattle.cv_kinds.specs.Sorts.{is_state};
+ghost use Rattle.cv_kinds.specs.WellFormed.{IsSpec};
 ghost use Rattle.cv_table.specs.Order.{actor_cmp};
 ghost use Rattle.cv_queue.specs.Ports.{OutView};
 ghost use Rattle.cv_protocol.specs.Actors.{IsShaped};
 ghost use Rattle.cv_protocol.specs.declared.state.Inlet.{Inlet};
 ghost use Rattle.cv_frame.specs.Trees.{number, hint_tree, inlet_tree, out_tree, spec_trees, state_tree};
-ghost use Rattle.cv_frame.specs.Values.{AreHints, IsHint, IsIn, IsOut, IsSpec, IsState, IsWait, Rise};
+ghost use Rattle.cv_frame.specs.Values.{AreHints, IsHint, IsIn, IsOut, IsState, IsWait, Rise};
 
 use crate::listing::{Part, all_of};
 use crate::parts::{actor_of, count_of, is_null, is_word, node_of, parts_of};
 use cv_behave::Behave;
-use cv_kinds::sorts::is_of;
-use cv_kinds::{ActorSpec, Kind, Param, find, state_ok};
+use cv_kinds::{ActorSpec, Kind, args_ok, find, state_ok};
 use cv_protocol::{ActorState, Hint, Hints, Inlet, StateParts};
 use cv_queue::OutPort;
-use cv_token::{ActorId, Items, OutOfMemory, Text, Token, copy_items, fits};
+use cv_token::{ActorId, Items, OutOfMemory, Text, Token, copy_items};
 use std::alloc::Global;
 
 /// The most milliseconds that an actor waits.
@@ -85,35 +83,6 @@ fn hints_of(alloc: Global, token: &Token) -> Result<Option<Hints>, OutOfMemory>
         return Ok(None);
     }
     Ok(Some(Hints::from_vec(hints)))
-}
-
-/// Whether a token is an argument for the parameter.
-fn is_argument(param: Param, token: &Token) -> bool
-    ensures { result ≡ (has_fit token.now && is_of param.sort token.now) }
-{
-    fits(token) && is_of(param.sort, token)
-}
-
-/// Whether these are arguments for the parameters.
-fn are_arguments(params: &[Param], args: &[Token]) -> bool
-    ensures { result ≡ are_arguments (map taking params.now) args.now }
-{
-    if params.len() != args.len() {
-        return false;
-    }
-    for place in 0..params.len() {
-        if !is_argument(params[place], &args[place]) {
-            return false;
-        }
-    }
-    true
-}
-
-/// Whether these are arguments of the kind's row.
-fn args_ok(kind: Kind, args: &Items) -> bool
-    ensures { result ≡ are_args kind args.now }
-{
-    are_arguments(kind.line().params, args.as_slice())
 }
 
 /// Path, kind and arguments.

@@ -4,11 +4,12 @@ use Rattle.cv_expand.specs.declared.flat.Parts.{Parts}
 use Rattle.cv_expand.specs.Bodies.{Among}
 use Rattle.cv_expand.proofs.Among.{Among-append_left, Among-append_right, Among-append_cases}
 use Rattle.cv_kinds.specs.declared.network.Join.{Join}
+use Rattle.cv_kinds.specs.Wired.{IsBelow, AllAbove, Rising}
 use Rattle.cv_graph.specs.declared.port.Side.TheVariants as side
 use Rattle.cv_graph.specs.declared.ways.Supply.{Supply}
 use Rattle.cv_graph.specs.declared.ways.Supply.TheVariants as supplies
 use Rattle.cv_graph.specs.Links.{AreSupplied, Feeds, link, links_at, links_from}
-use Rattle.cv_graph.specs.Meaning.{Connects, IsBelow, AllAbove, Rising}
+use Rattle.cv_graph.specs.Meaning.{Connects}
 use Rattle.cv_graph.specs.Ports.{End, port, Place, actor_places, IsActorPort}
 use Rattle.cv_graph.proofs.Lists.{some_same}
 use Rattle.cv_graph.proofs.Names.{actor_few}

@@ -10,3 +10,4 @@ pub mod Refusing
 pub mod Segments
 pub mod Single
 pub mod Whole
+pub mod Wires

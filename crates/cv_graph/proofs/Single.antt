@@ -6,10 +6,11 @@ use Rattle.cv_expand.specs.Bodies.{Among}
 use Rattle.cv_kinds.specs.declared.network.ActorSpec.{ActorSpec}
 use Rattle.cv_kinds.specs.declared.network.Join.{Join}
 use Rattle.cv_kinds.specs.Net.{Net}
+use Rattle.cv_kinds.specs.Wired.{IsBelow, AllAbove, Rising}
 use Rattle.cv_graph.specs.declared.fault.GraphFault.{GraphFault}
 use Rattle.cv_graph.specs.Arguments.{args_for, args_fault}
 use Rattle.cv_graph.specs.Checks.{Check, kind_known, args_taken, source_there, target_there, fed_once, inport_fed, queues_fit, Tells, AllHold, IsFirst}
-use Rattle.cv_graph.specs.Meaning.{IsSpec, AreSpecs, FitsQueues, IsBelow, AllAbove, Rising, IsNetwork}
+use Rattle.cv_graph.specs.Meaning.{IsSpec, AreSpecs, FitsQueues, IsNetwork}
 use Rattle.cv_graph.proofs.Lists.{some_same}
 
 -- ---- faults

@@ -9,6 +9,7 @@ use Rattle.cv_kinds.specs.declared.network.Join.{Join}
 use Rattle.cv_kinds.specs.KindRow.{row_of}
 use Rattle.cv_kinds.specs.Names.{kind_named}
 use Rattle.cv_kinds.specs.Net.{Net}
+use Rattle.cv_kinds.specs.Wired.{Rising}
 use Rattle.cv_graph.specs.declared.port.Side.TheVariants as side
 use Rattle.cv_graph.specs.Arguments.{args_for}
 use Rattle.cv_expand.specs.Paths.{path_text}
@@ -29,19 +30,6 @@ AreSpecs _ _ = ⊥
 -- a way leads from the outport to the inport, both of actors
 abbrev pub Connects : Parts → Join → Type 0
 Connects parts j = (s : End) × (e : End) × IsActorPort parts side.Out j.from j.out s × IsActorPort parts side.In j.to j.inp e × Reaches parts.feeds s e
-
--- j stands at an inport before that of k: by consumer, then inport
-abbrev pub IsBelow : Join → Join → Type 0
-IsBelow j k = (j.to ≤ k.to) × (j.to ≡ k.to → j.inp < k.inp)
-
-abbrev pub AllAbove : Join → List Join → Type 0
-AllAbove j [] = Unit {0}
-AllAbove j (k ∷ js) = IsBelow j k × AllAbove j js
-
--- connections stand by consumer, then inport; so each inport has at most one
-abbrev pub Rising : List Join → Type 0
-Rising [] = Unit {0}
-Rising (j ∷ js) = AllAbove j js × Rising js
 
 -- the network has these actors in this order, and a connection exactly where a way leads
 pub record IsNetwork (parts : Parts) (net : Net) : Type 0 where

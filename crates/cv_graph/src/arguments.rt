@@ -1,6 +1,7 @@
 //! The arguments of actors.
 
-ghost use Rattle.std.specs.Prelude.{◌≡◌, IfOk, None};
+ghost use Rattle.std.specs.Prelude.{◌≡◌, IfOk, None, true};
+ghost use Rattle.cv_kinds.specs.Sorts.{are_args};
 ghost use Rattle.cv_graph.specs.Arguments.{value_given, given_of, tokenless, argument_place, args_fault, args_for, placed};
 ghost use Rattle.cv_graph.specs.Faults.{Finds};
 
@@ -13,7 +14,8 @@ use std::alloc::Global;
 
 /// The arguments of an actor of that kind in the order of the kind's row, or what is wrong with them.
 pub fn arguments(alloc: Global, kind: Kind, actor: &Actor) -> Result<Items, GraphFault>
-    ensures { Finds (args_fault kind actor.now) (args_for kind actor.now) result }
+    ensures found { Finds (args_fault kind actor.now) (args_for kind actor.now) result }
+    ensures sorted { IfOk result (λ args. are_args kind args ≡ true) }
 {
     let given = given_of(alloc, actor.args.as_slice())?;
     match check_args(alloc, kind, &given) {

@@ -4,9 +4,10 @@ ghost use Rattle.std.specs.Prelude.{◌≡◌, ◌↔◌, ◌≤◌, ◌++◌, [
 ghost use Rattle.cv_expand.specs.Bodies.{Among};
 ghost use Rattle.cv_expand.specs.Flat.{IsFlat};
 ghost use Rattle.cv_kinds.specs.declared.network.Join.{Join};
+ghost use Rattle.cv_kinds.specs.Wired.{Rising};
 ghost use Rattle.cv_graph.specs.Checks.{feed_checks, fed_checks, checks};
 ghost use Rattle.cv_graph.specs.Faults.{Judges};
-ghost use Rattle.cv_graph.specs.Meaning.{Connects, Rising, IsNetwork};
+ghost use Rattle.cv_graph.specs.Meaning.{Connects, IsNetwork};
 ghost use Rattle.cv_graph.specs.Ways.{AreEnded, AreWithin};
 
 use crate::actors::actors_of;

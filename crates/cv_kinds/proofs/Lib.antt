@@ -1,8 +1,12 @@
 pub mod Checked
+pub mod Distinct
 pub mod Givens
 pub mod Kept
 pub mod Lines
 pub mod Parts
+pub mod Ports
 pub mod Promises
 pub mod Results
 pub mod States
+pub mod Trees
+pub mod Wires

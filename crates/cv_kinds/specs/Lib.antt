@@ -6,3 +6,4 @@ pub mod Net
 pub mod Sorts
 pub mod Table
 pub mod Wired
+pub mod WellFormed

@@ -3,6 +3,7 @@
 
 pub mod arguments;
 mod duration;
+mod forming;
 pub mod kind;
 pub mod laws;
 pub mod names;
@@ -14,5 +15,5 @@ pub use arguments::{ArgFault, ArgList, Argument, Given, check_args};
 pub use kind::{Kind, actions, deterministic};
 pub use names::{KINDS, find, inport, name, outport};
 pub use network::{ActorSpec, Join, Network};
-pub use sorts::state_ok;
+pub use sorts::{args_ok, state_ok};
 pub use table::{Line, Param, Preset, Slot, Sort};

@@ -1,6 +1,7 @@
 //! Networks: the actors that a script declares, and the connections between their ports.
 
 ghost use Rattle.std.specs.Prelude.{◌≡◌, ◌≤◌, length, IfOk};
+ghost use Rattle.cv_kinds.specs.WellFormed.{IsWellFormed};
 
 use crate::kind::Kind;
 use cv_token::{Items, OutOfMemory, Text, copy_items};
@@ -24,7 +25,8 @@ pub struct Join {
     pub inp: u8,
 }
 
-/// A network. Contracts see it as the lists of its actors and its connections.
+/// A network: at most 256 actors, no two at one path, each with arguments of its kind's row, and at most 4,096 connections
+/// of ports that are there, by consumer and then inport, no two to one inport. Contracts see it as the lists of both.
 #[derive(Drop)]
 pub struct Network {
     actors: Vec<ActorSpec>,
@@ -34,8 +36,8 @@ pub struct Network {
 impl Model for Network {
     ghost use Rattle.std.specs.Coded.{codes};
     ghost use Rattle.cv_token.specs.contracts.token.Token as token;
-    ghost use Rattle.std.specs.Prelude.{length};
-    ghost use Rattle.cv_kinds.specs.Net.{Net, IsSmall};
+    ghost use Rattle.cv_kinds.specs.Net.{Net};
+    ghost use Rattle.cv_kinds.specs.WellFormed.{IsWellFormed};
 
     ghost Value = { Net };
 
@@ -43,7 +45,7 @@ impl Model for Network {
 
     ghost view = { λ n. record { actors = n.actors.items; connections = n.connections.items } };
 
-    ghost invariant = { λ n. IsSmall (length n.actors.items) (length n.connections.items) };
+    ghost invariant = { λ n. IsWellFormed (record { actors = n.actors.items; connections = n.connections.items }) };
 }
 
 impl ActorSpec {
@@ -65,8 +67,7 @@ impl Network {
     /// The network of these actors, in the order of their declarations, and of these connections, by consumer and
     /// then inport; it takes no memory.
     pub fn new(actors: Vec<ActorSpec>, connections: Vec<Join>) -> Network
-        requires few_actors { length actors.items ≤ 256 }
-        requires few_connections { length connections.items ≤ 4096 }
+        requires { IsWellFormed (record { actors = actors.items; connections = connections.items }) }
         ensures actors { result.actors ≡ actors.items }
         ensures connections { result.connections ≡ connections.items }
     {
@@ -74,6 +75,13 @@ impl Network {
             actors,
             connections,
         }
+    }
+
+    /// What holds of each network; it does nothing.
+    pub fn well_formed(&self)
+        ensures { IsWellFormed self.now }
+    {
+        let _ = &self.actors;
     }
 
     /// The actors, in the order of their declarations.

@@ -1,12 +1,13 @@
-//! Whether tokens are of a sort, and whether a state has the slots of its kind.
+//! Whether tokens are of a sort, arguments those of a kind's row, and states those of a kind.
 
-ghost use Rattle.std.specs.Prelude.{◌≡◌, ◌&&◌};
+ghost use Rattle.std.specs.Prelude.{◌≡◌, ◌&&◌, map};
 ghost use Rattle.cv_behave.specs.Values.{has_fit, is_int, item_of, list_of};
-ghost use Rattle.cv_kinds.specs.Sorts.{are_slots, is_at_least, is_list, is_null, is_of, is_operator, is_place, is_round, is_slot, is_state, is_text, is_truth, is_within};
+ghost use Rattle.cv_kinds.specs.Sorts.{are_args, are_arguments, are_slots, is_at_least, is_list, is_null, is_of, is_operator, is_place, is_round, is_slot, is_state, is_text, is_truth, is_within};
+ghost use Rattle.cv_kinds.specs.Table.{taking};
 ghost use Rattle.cv_token.specs.declared.token.Token.TheVariants as token;
 
 use crate::kind::Kind;
-use crate::table::{Slot, Sort};
+use crate::table::{Param, Slot, Sort};
 use cv_behave::building::item;
 use cv_token::{Items, Token, fits};
 
@@ -98,6 +99,35 @@ fn is_operator_text(text: &str) -> bool
     ensures { result ≡ is_operator (token.Text text.now) }
 {
     text == "=" || text == "!=" || text == "<" || text == "<=" || text == ">" || text == ">="
+}
+
+/// Whether these are arguments of the kind's row: each fits, and is of its parameter's sort.
+pub fn args_ok(kind: Kind, args: &Items) -> bool
+    ensures { result ≡ are_args kind args.now }
+{
+    are_arguments(kind.line().params, args.as_slice())
+}
+
+/// Whether these are arguments for the parameters.
+fn are_arguments(params: &[Param], args: &[Token]) -> bool
+    ensures { result ≡ are_arguments (map taking params.now) args.now }
+{
+    if params.len() != args.len() {
+        return false;
+    }
+    for place in 0..params.len() {
+        if !is_argument(params[place], &args[place]) {
+            return false;
+        }
+    }
+    true
+}
+
+/// Whether a token is an argument for the parameter.
+fn is_argument(param: Param, token: &Token) -> bool
+    ensures { result ≡ (has_fit token.now && is_of param.sort token.now) }
+{
+    fits(token) && is_of(param.sort, token)
 }
 
 /// Whether the state has the slots of the kind, in their order: each fits, and is what the kind's is on these arguments.

@@ -30,7 +30,10 @@ fn constant_to_print(alloc: Global) -> Result<Network, Fail> {
         to: 1,
         inp: 0,
     })?;
-    Ok(Network::new(actors, connections))
+    match Network::of(alloc, actors, connections)? {
+        Some(net) => Ok(net),
+        None => Err(Fail::new("no network")),
+    }
 }
 
 #[test]

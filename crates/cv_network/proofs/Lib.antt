@@ -1,1 +1,5 @@
+pub mod Held
+pub mod Images
 pub mod Keys
+pub mod Made
+pub mod Ports

@@ -1,8 +1,8 @@
 -- A network as a token, whose text is the network's.
 use Rattle.std.specs.Prelude.{ℕ, pos, List, [], ◌∷◌, map, slice_get, Option, Some, None, codes}
-use Rattle.cv_token.specs.declared.pairs.Pair.{Pair}
 use Rattle.cv_token.specs.declared.token.Token.{Token}
 use Rattle.cv_token.specs.declared.token.Token.TheVariants as token
+use Rattle.cv_token.specs.Spelling.{spelling}
 use Rattle.cv_kinds.specs.declared.network.ActorSpec.{ActorSpec}
 use Rattle.cv_kinds.specs.declared.network.Join.{Join}
 use Rattle.cv_kinds.specs.Net.{Net}
@@ -45,3 +45,7 @@ network_token net =
     token.Dict (record { key = codes "actors"; value = token.List (map actor_token net.actors) }
     ∷ record { key = codes "connections"; value = token.List (map (connection_token net.actors) net.connections) }
     ∷ [])
+
+-- the one text of a network
+abbrev pub network_spelling : Net → List ℕ
+network_spelling net = spelling (network_token net)

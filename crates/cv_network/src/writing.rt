@@ -1,9 +1,8 @@
 //! Networks as text.
 
 ghost use Rattle.std.specs.Prelude.{◌≡◌, map, IfOk};
-ghost use Rattle.cv_token.specs.Spelling.{spelling};
 ghost use Rattle.cv_token.specs.declared.token.Token.TheVariants as tokens;
-ghost use Rattle.cv_network.specs.Written.{network_token, actor_token, connection_token, port_token, outport_token, inport_token};
+ghost use Rattle.cv_network.specs.Written.{network_spelling, network_token, actor_token, connection_token, port_token, outport_token, inport_token};
 
 use cv_kinds::{ActorSpec, Join, Network, name};
 use cv_token::{Items, OutOfMemory, Pair, Pairs, Text, Token, copy_items, text};
@@ -12,13 +11,13 @@ use std::alloc::Global;
 /// The text of a network, `{"actors":[[PATH,KIND,ARGUMENTS,null],..],"connections":[[FROM,OUTPORT,TO,INPORT],..]}`: actors
 /// by their places, and ports by their names.
 pub fn network_text(alloc: Global, net: &Network) -> Result<Text, OutOfMemory>
-    ensures { IfOk result (λ text. text ≡ spelling (network_token net.now)) }
+    ensures { IfOk result (λ text. text ≡ network_spelling net.now) }
 {
     text(alloc, &network_token(alloc, net)?)
 }
 
 /// A network as a token.
-fn network_token(alloc: Global, net: &Network) -> Result<Token, OutOfMemory>
+pub fn network_token(alloc: Global, net: &Network) -> Result<Token, OutOfMemory>
     ensures { IfOk result (λ token. token ≡ network_token net.now) }
 {
     let actor_list = actor_tokens(alloc, net.actors())?;

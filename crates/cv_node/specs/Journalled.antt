@@ -5,7 +5,8 @@ use Rattle.cv_protocol.specs.declared.event.Entry.{Entry}
 use Rattle.cv_protocol.specs.contracts.event.Entry as entry
 use Rattle.cv_protocol.specs.declared.event.Event.{Event}
 use Rattle.cv_protocol.specs.declared.event.Sent.{Sent}
-use Rattle.cv_protocol.specs.NodeState.{NodeState, node_code}
+use Rattle.cv_rules.specs.declared.attrs.NodeSpec.{NodeSpec}
+use Rattle.cv_protocol.specs.NodeState.{NodeState, node_code, opening}
 use Rattle.cv_protocol.specs.NodeRow.{row, stamp_of}
 use Rattle.cv_protocol.specs.Journals.{replay}
 use Rattle.cv_state.specs.Steps.{LeadsTo}
@@ -20,9 +21,19 @@ abbrev pub journalled_code : Coded Journalled
 journalled_code =
     code_by (NodeState × (NodeState × List Entry)) (coded× node_code (coded× node_code (coded_list entry.the_row.coded))) (λ j. (j.base, (j.state, j.entries))) (λ p. record { base = p.0; state = p.1.0; entries = p.1.1 }) (λ _. refl)
 
+-- the state before the first entry: the one that was noted, where one was
+abbrev pub base_of : {A : Type 0} → NodeSpec → List (NodeState × A) → NodeState
+base_of spec [] = opening spec
+base_of spec (noted ∷ more) = noted.0
+
 -- the state is what the entries leave of the base, each a row of the state before it, with the stamp of that row
 pub record IsReplay (base state : NodeState) (entries : List Entry) : Type 0 where
   pub replays : replay base entries ≡ Some state
+
+-- and the journal's specification is that of the base
+pub record IsJournal (base : NodeState) (spec : NodeSpec) (state : NodeState) (entries : List Entry) : Type 0 where
+  pub leaves : IsReplay base state entries
+  pub own : base.spec ≡ spec
 
 abbrev pub entry_of_row : NodeState → Event → Entry
 entry_of_row s e = record { stamp = stamp_of s e; event = e }

@@ -1,3 +1,4 @@
 pub mod Counts
 pub mod Journalled
 pub mod Polls
+pub mod Seeing

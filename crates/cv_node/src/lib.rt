@@ -2,5 +2,7 @@
 #![tactic(auto)]
 
 pub mod node;
+pub mod seen;
 
 pub use node::{JOURNAL_LENGTH, Node};
+pub use seen::Seen;

@@ -1,19 +1,28 @@
 //! `Node`: a state with the journal that led to it.
 
-ghost use Rattle.std.specs.Prelude.{◌≡◌, ◌<◌, ◌≤◌, [], ◌∷◌, ◌++◌, slice_get, vec_len, vec_capacity, IfOk, IfErr, OnOk, OnErr};
-ghost use Rattle.std.specs.Option.{option_copied};
+ghost use Rattle.std.specs.Prelude.{◌≡◌, ◌<◌, ◌≤◌, true, [], ◌∷◌, ◌++◌, length, slice_get, vec_len, vec_capacity, IfOk, IfErr, OnOk, OnErr};
+ghost use Rattle.std.specs.List.{list_all};
+ghost use Rattle.std.specs.Option.{option_copied, option_map};
 ghost use Rattle.std.specs.FinMap as map;
 ghost use Rattle.cv_protocol.specs.NodeState.{opening};
 ghost use Rattle.cv_protocol.specs.NodeRow.{cause_of};
+ghost use Rattle.cv_protocol.specs.Rows.{is_node};
+ghost use Rattle.cv_state.specs.Leaving.{frozen_place};
+ghost use Rattle.cv_state.specs.Opening.{opened};
 ghost use Rattle.cv_state.specs.Steps.{Refuses};
+ghost use Rattle.cv_state.specs.Waking.{IsNextDue};
 ghost use Rattle.cv_node.specs.Journalled.{IsReplay, Steps};
 ghost use Rattle.cv_node.specs.Polls.{HasPolled, poll_cause};
+ghost use Rattle.cv_node.specs.Seeing.{seen_actor};
 
+use crate::seen::Seen;
 use cv_actor::{Live, Outlook, Polled};
+use cv_kinds::Network;
 use cv_protocol::{Entry, Event, Journal, Location, Sent, StepRefusal};
 use cv_rules::NodeSpec;
 use cv_state::State;
-use cv_token::{ActorId, OutOfMemory};
+use cv_token::{ActorId, AppId, OutOfMemory};
+use http_server::Log;
 use std::alloc::Global;
 use std::marker::Model;
 
@@ -26,19 +35,24 @@ pub const JOURNAL_LENGTH: usize = 1 << 30;
 pub struct Node {
     state: State,
     journal: Journal,
+    /// The state that the node began with, for proofs alone: it takes no memory. Where none is noted, it is a node that knows itself alone.
+    noted: Log<State, u8>,
 }
 
 impl Model for Node {
-    ghost use Rattle.cv_protocol.specs.NodeState.{opening};
-    ghost use Rattle.cv_node.specs.Journalled.{Journalled, journalled_code, IsReplay};
+    ghost use Rattle.cv_node.specs.Journalled.{Journalled, journalled_code, base_of, IsJournal};
 
     ghost Value = { Journalled };
 
     ghost coded = { journalled_code };
 
-    ghost view = { λ n. record { base = opening n.journal.spec; state = n.state; entries = n.journal.entries.items } };
+    ghost view = { λ n. record {
+      base = base_of n.journal.spec n.noted.items;
+      state = n.state;
+      entries = n.journal.entries.items;
+    } };
 
-    ghost invariant = { λ n. IsReplay (opening n.journal.spec) n.state n.journal.entries.items };
+    ghost invariant = { λ n. IsJournal (base_of n.journal.spec n.noted.items) n.journal.spec n.state n.journal.entries.items };
 }
 
 impl Node {
@@ -54,7 +68,41 @@ impl Node {
             dropped: 0,
             entries: Vec::new(alloc),
         };
-        Ok(Node { state, journal })
+        Ok(Node {
+            state,
+            journal,
+            noted: Log::new(),
+        })
+    }
+
+    /// A node before its first entry that opens with an application: the application is known by the name `run`, actor `a` is known to
+    /// live at node `at[a]`, and those of this node live here.
+    pub fn open(
+        alloc: Global,
+        spec: NodeSpec,
+        app: AppId,
+        net: &Network,
+        at: &[u16],
+    ) -> Result<Node, OutOfMemory>
+        requires number { (1 ≤ spec.no) × (spec.no ≤ 64) }
+        requires window { (1 ≤ spec.window) × (spec.window ≤ 64) }
+        requires app { (app.seq ≡ 1) × (1 ≤ app.node) × (app.node ≤ 64) }
+        requires places { length at.now ≡ length net.now.actors }
+        requires nodes { list_all is_node at.now ≡ true }
+        ensures { IfOk result (λ node. node ≡ record { base = opened spec app net.now at.now; state = opened spec app net.now at.now; entries = [] }) }
+    {
+        let state = State::open(alloc, spec.copy(alloc)?, app, net, at)?;
+        let noted = Log::new().and(&state, &0);
+        let journal = Journal {
+            spec,
+            dropped: 0,
+            entries: Vec::new(alloc),
+        };
+        Ok(Node {
+            state,
+            journal,
+            noted,
+        })
     }
 
     /// Does one row and appends its entry; tells the frames that it sends. A refused event changes nothing.
@@ -123,10 +171,42 @@ impl Node {
         self.state.live_at(place)
     }
 
+    /// Where the node sees the actor; None exactly where it does not know it.
+    pub fn known_actor(&self, actor: ActorId) -> Option<Seen>
+        ensures { result ≡ seen_actor self.now.state actor }
+    {
+        let lives = self.state.live(actor).is_some();
+        if !lives && self.state.is_frozen(actor) {
+            return Some(Seen::Moving);
+        }
+        if self.state.is_gone(actor.app) {
+            return None;
+        }
+        if lives {
+            return Some(Seen::Live);
+        }
+        let hint = self.state.hint(actor)?;
+        Some(Seen::Away(hint.node))
+    }
+
+    /// The frozen copy of that place by rising actor, from 0: its actor, attempt and target.
+    pub fn frozen_at(&self, place: u32) -> Option<(ActorId, u64, u16)>
+        ensures { result ≡ option_map frozen_place (slice_get (map.entries self.now.state.moves.frozen) place) }
+    {
+        self.state.frozen_at(place)
+    }
+
+    /// The least moment that an action of a live actor waits for first; None exactly where none waits for one.
+    pub fn next_due(&self) -> Option<u64>
+        ensures { IsNextDue self.now.state result }
+    {
+        self.state.next_due()
+    }
+
     /// The entries so far, with what the node is from the start.
     pub fn journal(&self) -> &Journal
         ensures entries { result.now.entries.items ≡ self.now.entries }
-        ensures spec { opening result.now.spec ≡ self.now.base }
+        ensures spec { result.now.spec ≡ self.now.base.spec }
         ensures replays { IsReplay self.now.base self.now.state self.now.entries }
     {
         &self.journal
@@ -135,7 +215,7 @@ impl Node {
     /// The entries, with what the node is from the start.
     pub fn into_journal(self) -> Journal
         ensures entries { result.entries.items ≡ self.entries }
-        ensures spec { opening result.spec ≡ self.base }
+        ensures spec { result.spec ≡ self.base.spec }
         ensures replays { IsReplay self.base self.state self.entries }
     {
         self.journal

@@ -2,10 +2,13 @@ pub mod Comings
 pub mod Deploys
 pub mod Destroys
 pub mod Ends
+pub mod Entries
 pub mod Keeps
 pub mod Leaves
 pub mod Local
+pub mod Openings
 pub mod Outlets
 pub mod Raises
 pub mod Seats
+pub mod Wakes
 pub mod Ways

@@ -30,10 +30,12 @@ all_settled app actor [] live = live
 all_settled app actor (l ∷ ls) live =
     all_settled app (suc actor) ls (map.insert live (record { app = app; actor = actor }) l)
 
--- what is known once the application was deployed here
-abbrev pub deployed_known : Known → AppId → List ℕ → Net → Known
-deployed_known k app name net = record k {
+-- what is known once the application is, with its connections, and once it was deployed here
+abbrev pub learned : Known → AppId → List ℕ → Net → Known
+learned k app name net = record k {
   apps = map.insert k.apps app (known.Known name net);
-  deployed = k.deployed + 1;
   producers = all_joined app 0 net.connections k.producers;
 }
+
+abbrev pub deployed_known : Known → AppId → List ℕ → Net → Known
+deployed_known k app name net = record (learned k app name net) { deployed = k.deployed + 1 }

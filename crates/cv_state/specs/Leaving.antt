@@ -1,5 +1,5 @@
 -- Actors that leave.
-use Rattle.std.specs.Prelude.{List, Option}
+use Rattle.std.specs.Prelude.{ℕ, List, Option}
 use Rattle.std.specs.FinMap as map
 use Rattle.cv_token.specs.declared.identifiers.ActorId.{ActorId}
 use Rattle.cv_protocol.specs.declared.moving.Frozen.{Frozen}
@@ -24,3 +24,7 @@ left_state s a copy = record s {
   live = map.remove s.live a;
   moves = record (s.moves) { frozen = map.insert s.moves.frozen a copy };
 }
+
+-- a frozen copy as callers are told of it: its actor, attempt and target
+abbrev pub frozen_place : ActorId × Frozen → ActorId × ℕ × ℕ
+frozen_place e = (e.0, e.1.attempt, e.1.target)

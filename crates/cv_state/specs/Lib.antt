@@ -4,6 +4,8 @@ pub mod Deploying
 pub mod Destroying
 pub mod Kept
 pub mod Leaving
+pub mod Opening
 pub mod Outlets
 pub mod Steps
+pub mod Waking
 pub mod Ways

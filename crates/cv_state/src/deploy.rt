@@ -24,7 +24,7 @@ use std::collections::VecDeque;
 const MOST_APPLICATIONS: u16 = 4096;
 
 /// Whether each actor's first moment is below the limit.
-fn are_due(actors: &[ActorSpec], now: u64) -> bool
+pub(crate) fn are_due(actors: &[ActorSpec], now: u64) -> bool
     requires { now < 2 ^ 62 }
     ensures { result ≡ are_due now actors.now }
 {

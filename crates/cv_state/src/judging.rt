@@ -24,7 +24,7 @@ fn rule_of(_spec: &ActorSpec) -> Rule
 
 impl State {
     /// Whether the application is destroyed here.
-    pub(crate) fn is_gone(&self, app: AppId) -> bool
+    pub fn is_gone(&self, app: AppId) -> bool
         ensures { result ≡ is_gone self.now app }
     {
         match self.known.application(app) {

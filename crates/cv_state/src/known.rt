@@ -5,7 +5,8 @@ ghost use Rattle.std.specs.Option.{option_copied};
 ghost use Rattle.std.specs.FinMap as map;
 ghost use Rattle.cv_protocol.specs.Deliveries.{outs_joined};
 ghost use Rattle.cv_protocol.specs.Rows.{all_joined};
-ghost use Rattle.cv_state.specs.Deploying.{deployed_known};
+ghost use Rattle.cv_state.specs.Deploying.{deployed_known, learned};
+ghost use Rattle.cv_state.specs.Opening.{opened_known, own_count};
 
 use crate::joining::{count_readers, join_outs};
 use cv_kinds::{Join, Network};
@@ -57,6 +58,13 @@ fn join_all(producers: &mut ConnTable<ActorId>, app: AppId, joins: &[Join])
             unreachable!()
         };
     }
+}
+
+/// How often the node counts an application as deployed that it opens with.
+fn own_count(app: AppId, no: u16) -> u16
+    ensures { result ≡ own_count app no }
+{
+    if app.node == no { 1 } else { 0 }
 }
 
 impl Known {
@@ -128,6 +136,26 @@ impl Known {
         self.nodes.key_at(place)
     }
 
+    /// The application is known with its name, its network and its connections. Want of memory changes nothing.
+    fn learn(
+        &mut self,
+        alloc: Global,
+        app: AppId,
+        name: &Text,
+        net: &Network,
+    ) -> Result<(), OutOfMemory>
+        ensures ok { OnOk result (self.new ≡ learned self.old app name.now net.now) }
+        ensures err { OnErr result (self.new ≡ self.old) }
+    {
+        let joins = net.connections();
+        let name = name.copy(alloc)?;
+        let net = Boxed::new(alloc, net.copy(alloc)?)?;
+        self.producers.reserve(joins.len())?;
+        self.apps.insert(app, Application::Known { name, net })?;
+        join_all(&mut self.producers, app, joins);
+        Ok(())
+    }
+
     /// The application was deployed here. Want of memory changes nothing.
     pub fn deploy(
         &mut self,
@@ -140,14 +168,26 @@ impl Known {
         ensures ok { OnOk result (self.new ≡ deployed_known self.old app name.now net.now) }
         ensures err { OnErr result (self.new ≡ self.old) }
     {
-        let joins = net.connections();
-        let name = name.copy(alloc)?;
-        let net = Boxed::new(alloc, net.copy(alloc)?)?;
-        self.producers.reserve(joins.len())?;
-        self.apps.insert(app, Application::Known { name, net })?;
+        self.learn(alloc, app, name, net)?;
         self.deployed += 1;
-        join_all(&mut self.producers, app, joins);
         Ok(())
+    }
+
+    /// A node that knows itself, with these attributes, and the application, which the node that it names counts as deployed.
+    pub fn opened(
+        alloc: Global,
+        no: u16,
+        attrs: Attrs,
+        app: AppId,
+        net: &Network,
+    ) -> Result<Known, OutOfMemory>
+        ensures { IfOk result (λ known. known ≡ opened_known no attrs app net.now) }
+    {
+        let mut known = Known::new(alloc, no, attrs)?;
+        let name = Text::from_string(String::from_str(alloc, "run")?);
+        known.learn(alloc, app, &name, net)?;
+        known.deployed = own_count(app, no);
+        Ok(known)
     }
 
     /// The node is known with these attributes.

@@ -1,12 +1,13 @@
 //! `Moves`: the actors that are frozen at a node, and what it judged or released.
 
-ghost use Rattle.std.specs.Prelude.{◌≡◌, is_some, max, OnOk, OnErr};
-ghost use Rattle.std.specs.Option.{option_copied};
+ghost use Rattle.std.specs.Prelude.{◌≡◌, is_some, max, slice_get, OnOk, OnErr};
+ghost use Rattle.std.specs.Option.{option_copied, option_map};
 ghost use Rattle.std.specs.FinMap as map;
 ghost use Rattle.cv_protocol.specs.NodeState.{frozen_attempt, judged_attempt, released};
 ghost use Rattle.cv_protocol.specs.Deliveries.{outs_joined, verdict_of};
 ghost use Rattle.cv_protocol.specs.Rows.{elsewhere};
 ghost use Rattle.cv_state.specs.Arrivals.{all_released, with_record};
+ghost use Rattle.cv_state.specs.Leaving.{frozen_place};
 
 use crate::known::Known;
 use crate::releasing::{judged_attempt, release, release_all};
@@ -63,6 +64,15 @@ impl Moves {
         ensures { result ≡ map.get self.now.judged actor }
     {
         self.judged.get(actor).copied()
+    }
+
+    /// The frozen copy of that place by rising actor, from 0: its actor, attempt and target.
+    pub fn frozen_at(&self, place: u32) -> Option<(ActorId, u64, u16)>
+        ensures { result ≡ option_map frozen_place (slice_get (map.entries self.now.frozen) place) }
+    {
+        let actor = self.frozen.key_at(place as usize)?;
+        let copy = self.frozen.get(actor)?;
+        Some((actor, copy.attempt, copy.target))
     }
 
     /// Keeps a frozen copy of the actor. Want of memory changes nothing.

@@ -1,12 +1,13 @@
 //! `State`: what a node is between two entries of its journal.
 
 ghost use Rattle.std.specs.Prelude.{◌≡◌, None, if◌then◌else◌, is_some, slice_get, IfOk, IfErr, IsSomeAnd, OnErr};
-ghost use Rattle.std.specs.Option.{option_copied};
+ghost use Rattle.std.specs.Option.{option_copied, option_map};
 ghost use Rattle.std.specs.FinMap as map;
 ghost use Rattle.cv_protocol.specs.declared.refusal.StepRefusal.TheVariants as refusal;
 ghost use Rattle.cv_protocol.specs.NodeState.{opening};
 ghost use Rattle.cv_protocol.specs.Poll.{poll};
 ghost use Rattle.cv_actor.specs.Polled.{foreseen};
+ghost use Rattle.cv_state.specs.Leaving.{frozen_place};
 
 use crate::known::Known;
 use crate::moves::Moves;
@@ -95,6 +96,20 @@ impl State {
         ensures { result ≡ slice_get (map.keys self.now.live) place }
     {
         self.live.key_at(place as usize)
+    }
+
+    /// Whether the actor is frozen here.
+    pub fn is_frozen(&self, actor: ActorId) -> bool
+        ensures { result ≡ is_some (map.get self.now.moves.frozen actor) }
+    {
+        self.moves.is_frozen(actor)
+    }
+
+    /// The frozen copy of that place by rising actor, from 0: its actor, attempt and target.
+    pub fn frozen_at(&self, place: u32) -> Option<(ActorId, u64, u16)>
+        ensures { result ≡ option_map frozen_place (slice_get (map.entries self.now.moves.frozen) place) }
+    {
+        self.moves.frozen_at(place)
     }
 
     /// What a poll of the actor would do.

@@ -10,7 +10,7 @@ use cv_rules::{Attrs, NodeSpec};
 use cv_station::{Peer, Station};
 use cv_token::{ActorId, AppId, Items, OutOfMemory, Text, Token};
 use sqlite_items::Boxed;
-use std::alloc::Global;
+use std::alloc::{AllocError, Global};
 use std::process::Abort;
 use std::test::Fail;
 
@@ -49,7 +49,10 @@ fn network(alloc: Global, tokens: i64) -> Result<Network, OutOfMemory> {
     actors.push(snk)?;
     let mut joins = Vec::new(alloc);
     joins.push(JOIN)?;
-    Ok(Network::new(actors, joins))
+    match Network::of(alloc, actors, joins)? {
+        Some(net) => Ok(net),
+        None => Err(AllocError),
+    }
 }
 
 fn node(alloc: Global, no: u16) -> Result<Node, OutOfMemory> {

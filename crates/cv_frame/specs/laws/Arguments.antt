@@ -1,10 +1,7 @@
 -- Arguments of a kind.
-use Rattle.std.proofs.Common.{◌≡◌, ◌≢◌, ℕ, Bool, true, false, ◌&&◌, List, [], ◌∷◌, length, Some, refl, sym, ap, ◌∙◌, arith}
-use Rattle.cv_token.specs.declared.token.Token.{Token}
+use Rattle.std.proofs.Common.{◌≡◌, ℕ, List, Some, refl, sym, ap, ◌∙◌}
 use Rattle.cv_token.specs.declared.token.Token.TheVariants as tree
-use Rattle.cv_behave.specs.Values.{has_fit}
-use Rattle.cv_kinds.specs.Sorts.{are_arguments, is_of}
-use Rattle.cv_kinds.specs.Table.{Parameter, line_of}
+use Rattle.cv_kinds.specs.Table.{line_of}
 use Rattle.cv_kinds.specs.Names.{all_kinds, first_named}
 use Rattle.cv_kinds.specs.declared.network.ActorSpec.{ActorSpec}
 use Rattle.cv_kinds.proofs.Lines.{itself}
@@ -13,18 +10,6 @@ use Rattle.cv_frame.specs.laws.Shapes.{same_list}
 
 pub one_word : (s r : List ℕ) → word s ≡ word r → s ≡ r
 one_word s r e = cc
-
-never : (a b : Bool) → (a && (b && false)) ≡ false
-never true true = refl
-never true false = refl
-never false b = refl
-
--- arguments are as many as the parameters
-pub uneven : (ps : List Parameter) (ts : List Token) → length ps ≢ length ts → are_arguments ps ts ≡ false
-uneven [] [] ne = absurd (omega arith)
-uneven [] (t ∷ ts) ne = refl
-uneven (p ∷ ps) [] ne = refl
-uneven (p ∷ ps) (t ∷ ts) ne = rw (uneven ps ts (omega arith)) (never (has_fit t) (is_of p.sort t))
 
 -- a path, a kind and arguments have trees of their own
 pub one_spec : (s r : ActorSpec) → spec_trees s ≡ spec_trees r → s ≡ r

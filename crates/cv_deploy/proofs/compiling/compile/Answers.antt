@@ -7,7 +7,7 @@ use Rattle.cv_deploy.specs.Faults.{SpellsScript, HasFault, HasScriptFault}
 use Rattle.cv_deploy.specs.Meaning.{StandsFor}
 use Rattle.cv_deploy.proofs.Causes.{gives_err, refuses_err}
 use Rattle.cv_deploy.proofs.Texts.{refuses_other}
-use Rattle.cv_deploy.proofs.Wires.{network_is_wired}
+use Rattle.cv_graph.proofs.Wires.{network_is_wired}
 use Rattle.cv_deploy.proofs.compiling.compile.Goals as goal
 
 pub returns-in_err-script-clause-only : goal.returns-in_err-script-clause-only

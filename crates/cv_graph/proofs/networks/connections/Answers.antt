@@ -3,11 +3,12 @@ use Rattle.std.proofs.lemmas.Result.{err_from_is_err_and, IfOk-weaker}
 use Rattle.std.specs.Global.{Vec}
 use Rattle.cv_expand.specs.Bodies.{Among}
 use Rattle.cv_kinds.specs.declared.network.Join.{Join}
+use Rattle.cv_kinds.specs.Wired.{Rising}
 use Rattle.cv_graph.specs.declared.port.Wire.{Wire}
 use Rattle.cv_graph.specs.declared.ways.Way.{Way}
 use Rattle.cv_graph.specs.Checks.{feed_checks, fed_checks}
 use Rattle.cv_graph.specs.Links.{way_of, supplied, AreSupplied, links_from}
-use Rattle.cv_graph.specs.Meaning.{Connects, Rising}
+use Rattle.cv_graph.specs.Meaning.{Connects}
 use Rattle.cv_graph.specs.Ports.{actor_places}
 use Rattle.cv_graph.specs.Ways.{AreWithin, AreEnded}
 use Rattle.cv_graph.proofs.Connecting.{links_connect, links_rising}

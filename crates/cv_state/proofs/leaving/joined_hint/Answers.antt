@@ -1,5 +1,6 @@
 use Rattle.std.proofs.Common.{sym}
-use Rattle.cv_state.proofs.Leaves.{has_value, kept_hint, left_hint}
+use Rattle.cv_state.proofs.Entries.{has_value}
+use Rattle.cv_state.proofs.Leaves.{kept_hint, left_hint}
 use Rattle.cv_state.proofs.Local.{both_true, either_false, first_false}
 use Rattle.cv_state.proofs.leaving.joined_hint.Goals as goal
 use Rattle.cv_state.proofs.leaving.joined_hint.Goals.{else-ne-via-then-ne+else-is_joined, else-ne-via-else-ne}

@@ -1,7 +1,7 @@
 use Rattle.std.proofs.Common.{◌≡◌, drop, length, map}
 use Rattle.cv_kinds.specs.Sorts.{are_arguments}
 use Rattle.cv_kinds.specs.Table.{taking}
-use Rattle.cv_frame.proofs.states.are_arguments.Given as goal
+use Rattle.cv_kinds.proofs.sorts.are_arguments.Given as goal
 
 abbrev pub invariant-loop-place : goal.invariant-loop-place
 invariant-loop-place l = record {

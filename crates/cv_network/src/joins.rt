@@ -1,0 +1,112 @@
+//! Connections of a network out of their trees.
+
+ghost use Rattle.std.specs.Prelude.{◌≡◌, ◌<◌, ◌≤◌, ℕ, All, List, IfOk, MatchOption, Some, length, map, pos, slice_get};
+ghost use Rattle.cv_kinds.specs.declared.network.Join.{Join};
+ghost use Rattle.cv_kinds.specs.KindRow.{row_of};
+ghost use Rattle.cv_kinds.specs.Table.{line_of};
+ghost use Rattle.cv_kinds.specs.Wired.{HasInport, HasOutport, Joins};
+ghost use Rattle.cv_network.specs.Written.{connection_token, inport_of, inport_token, outport_of, outport_token, port_token};
+ghost use Rattle.cv_token.specs.declared.token.Token.TheVariants as tree;
+
+use cv_kinds::{ActorSpec, Join, Kind, inport, outport};
+use cv_token::{OutOfMemory, Token};
+use std::alloc::Global;
+
+/// The connections of these actors that have these trees. What other trees give is not said.
+pub(crate) fn joins_of(
+    alloc: Global,
+    actors: &[ActorSpec],
+    items: &[Token],
+) -> Result<Option<Vec<Join>>, OutOfMemory>
+    ensures { (joins : List Join) → length actors.now ≤ 256 → All (Joins actors.now) joins → items.now ≡ map (connection_token actors.now) joins
+        → IfOk result (λ found. MatchOption found ⊥ (λ list. list.items ≡ joins)) }
+{
+    let mut joins = Vec::with_capacity(alloc, items.len())?;
+    for item in items {
+        let Some(join) = join_of(actors, item) else {
+            return Ok(None);
+        };
+        joins.push(join)?;
+    }
+    Ok(Some(joins))
+}
+
+/// The connection that has this tree.
+fn join_of(actors: &[ActorSpec], token: &Token) -> Option<Join>
+    ensures { (join : Join) → length actors.now ≤ 256 → Joins actors.now join → token.now ≡ connection_token actors.now join → result ≡ Some join }
+{
+    let Token::List(parts) = token else {
+        return None;
+    };
+    let parts = parts.as_slice();
+    if parts.len() != 4 {
+        return None;
+    }
+    join_with(actors, &parts[0], &parts[1], &parts[2], &parts[3])
+}
+
+/// The connection of these ends.
+fn join_with(
+    actors: &[ActorSpec],
+    from: &Token,
+    out: &Token,
+    to: &Token,
+    inp: &Token,
+) -> Option<Join>
+    ensures { (join : Join) → length actors.now ≤ 256 → Joins actors.now join → from.now ≡ tree.Int (pos join.from) → out.now ≡ outport_token actors.now join
+        → to.now ≡ tree.Int (pos join.to) → inp.now ≡ inport_token actors.now join → result ≡ Some join }
+{
+    let from = place_of(from)?;
+    let out = outport_in(actors, from, out)?;
+    let to = place_of(to)?;
+    let inp = inport_in(actors, to, inp)?;
+    Some(Join { from, out, to, inp })
+}
+
+/// The place of an actor.
+fn place_of(token: &Token) -> Option<u16>
+    ensures { (place : ℕ) → place ≤ 256 → token.now ≡ tree.Int (pos place) → result ≡ Some place }
+{
+    match token {
+        Token::Int(number) if *number >= 0 && *number <= 256 => Some(*number as u16),
+        _ => None,
+    }
+}
+
+/// The outport of that name of an actor.
+fn outport_in(actors: &[ActorSpec], actor: u16, name: &Token) -> Option<u8>
+    ensures { (port : ℕ) → HasOutport (slice_get actors.now actor) port → name.now ≡ outport_of port (slice_get actors.now actor) → result ≡ Some port }
+{
+    let spec = actors.get(usize::from(actor))?;
+    outport_named(spec.kind, name)
+}
+
+/// The inport of that name of an actor.
+fn inport_in(actors: &[ActorSpec], actor: u16, name: &Token) -> Option<u8>
+    ensures { (port : ℕ) → HasInport (slice_get actors.now actor) port → name.now ≡ inport_of port (slice_get actors.now actor) → result ≡ Some port }
+{
+    let spec = actors.get(usize::from(actor))?;
+    inport_named(spec.kind, name)
+}
+
+/// The outport of that name of a kind.
+#[tactic(auto, using(crate::proofs::Ports::outport_known))]
+fn outport_named(kind: Kind, name: &Token) -> Option<u8>
+    ensures { (port : ℕ) → port < (row_of kind).outports → name.now ≡ port_token (line_of kind).outports port → result ≡ Some port }
+{
+    match name {
+        Token::Text(name) => outport(kind, name.as_str()),
+        _ => None,
+    }
+}
+
+/// The inport of that name of a kind.
+#[tactic(auto, using(crate::proofs::Ports::inport_known))]
+fn inport_named(kind: Kind, name: &Token) -> Option<u8>
+    ensures { (port : ℕ) → port < (row_of kind).inports → name.now ≡ port_token (line_of kind).inports port → result ≡ Some port }
+{
+    match name {
+        Token::Text(name) => inport(kind, name.as_str()),
+        _ => None,
+    }
+}
