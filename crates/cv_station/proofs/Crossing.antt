@@ -33,6 +33,7 @@ use Rattle.cv_state.specs.contracts.known.Known as known
 use Rattle.cv_state.specs.contracts.moves.Moves as moves
 use Rattle.cv_state.specs.contracts.state.State as state
 use Rattle.cv_node.specs.contracts.node.Node as node
+use Rattle.http_server.proofs.log.Log.TheSendSync as logs
 use Rattle.rtrb.proofs.end.End.TheSendSync as ends
 use Rattle.cv_link.proofs.plan.Plan.TheSendSync as plans
 use Rattle.cv_link.specs.contracts.ring.Rx as rx
@@ -205,7 +206,7 @@ journal_field : IsSend (journal.the_field).row
 journal_field = search (attrs_send, entry_send, crosses, sendable) depth 60 fits 20000
 
 node_send : IsSend node.the_row
-node_send = search (node_state_send, journal_field, crosses, sendable) depth 60 fits 20000
+node_send = search (node_state_send, journal_field, logs.the_send, crosses, sendable) depth 60 fits 20000
 
 tx_field : IsSend (tx.the_field).row
 tx_field = search (frame_send, ends.the_send, crosses, sendable) depth 60 fits 20000
