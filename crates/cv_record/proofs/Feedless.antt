@@ -1,9 +1,8 @@
 -- No line feed stands in the text of a token.
-use Rattle.std.proofs.Common.{◌≡◌, ◌≢◌, ℕ, suc, ◌+◌, ◌/◌, ◌%◌, ◌<◌, ◌==◌, ◌^◌, pos, negsuc, List, [], ◌∷◌, ◌++◌, false, true, Bool, ◌&&◌, ◌||◌, cond, nat_lt, map, flat_map, codes, refl, sym, ◌∙◌, subst, arith, decimal, ltb-true, inl}
+use Rattle.std.proofs.Common.{◌≡◌, ◌≢◌, ℕ, suc, ◌+◌, ◌/◌, ◌%◌, ◌==◌, ◌^◌, pos, negsuc, List, [], ◌∷◌, ◌++◌, false, true, Bool, ◌&&◌, ◌||◌, cond, nat_lt, map, codes, refl, sym, ◌∙◌, subst, arith, ltb-true, inl}
 use Rattle.std.proofs.lemmas.Bool.{and_parts, eqb-true}
 use Rattle.std.proofs.lemmas.List.Elements.{All-append, All-cons, All-nil}
 use Rattle.std.specs.Char.{digit_char}
-use Rattle.std.specs.List.{All}
 use Rattle.std.specs.Str.{is_utf8}
 use Rattle.json.specs.Print.{escape, escape_byte, escape_letter, quoted}
 use Rattle.cv_token.specs.declared.pairs.Pair.{Pair}

@@ -4,8 +4,6 @@ use Rattle.std.proofs.lemmas.List.Elements.{All-append, All-cons, All-head, All-
 use Rattle.std.proofs.lemmas.Grind.{flat_map-append}
 use Rattle.std.proofs.lemmas.List.Folds.{flat_map-map}
 use Rattle.std.specs.List.{All}
-use Rattle.cv_token.specs.Spelling.{spelling}
-use Rattle.cv_token.specs.Spells.{IsTree}
 use Rattle.cv_token.proofs.Round.{one_spelling}
 use Rattle.cv_protocol.specs.declared.event.Entry.{Entry}
 use Rattle.cv_entry.specs.declared.head.Head.{Head}
@@ -15,7 +13,7 @@ use Rattle.cv_entry.specs.Values.{IsEntry, IsHead}
 use Rattle.cv_entry.specs.laws.OneEntry.{entry_is_no_head, one_entry, one_head}
 use Rattle.cv_entry.proofs.Held.{entry_held, head_held}
 use Rattle.cv_record.specs.Faults.{IsWithinLine}
-use Rattle.cv_record.specs.Journals.{AreJournals, IsJournal, JournalView, RiseAbove, entry_line, journal_text, journals_text, line}
+use Rattle.cv_record.specs.Journals.{IsJournal, JournalView, RiseAbove, entry_line, journals_text, line}
 use Rattle.cv_record.proofs.Feedless.{within_line}
 use Rattle.cv_record.proofs.FirstLines.{lines_behind}
 

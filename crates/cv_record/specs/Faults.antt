@@ -1,5 +1,5 @@
 -- Which line of a text is the first that is not of the form of journals.
-use Rattle.std.specs.Prelude.{◌≡◌, ◌≢◌, ℕ, Bool, ◌+◌, ◌==◌, List, [], ◌∷◌, ◌++◌, All, count_by, ◌⊎◌}
+use Rattle.std.specs.Prelude.{◌≡◌, ◌≢◌, ℕ, Bool, ◌+◌, ◌==◌, List, [], ◌++◌, All, count_by, ◌⊎◌}
 use Rattle.cv_protocol.specs.declared.event.Entry.{Entry}
 use Rattle.cv_entry.specs.Values.{IsEntry}
 use Rattle.cv_record.specs.declared.fault.LineFault.{LineFault}

@@ -1,7 +1,7 @@
-use Rattle.std.proofs.Common.{◌≡◌, ◌≢◌, ◌+◌, ℕ, List, [], ◌∷◌, ◌++◌, length, map, sym, ap, subst, ◌∙◌, arith}
+use Rattle.std.proofs.Common.{◌≡◌, ◌+◌, ℕ, List, [], ◌∷◌, length, map, sym, ap, subst, ◌∙◌, arith}
 use Rattle.std.proofs.lemmas.List.{map-append}
 use Rattle.cv_record.specs.Journals.{JournalView, view_of}
-use Rattle.cv_record.proofs.Standing.{BeginsWithNoHead, Stands, all_read, first_bad, is_nothing, is_something, no_journals, same_read, stands_more}
+use Rattle.cv_record.proofs.Standing.{Stands, first_bad, is_nothing, is_something, no_journals, same_read, stands_more}
 use Rattle.cv_record.proofs.reading.read.Goals as goal
 
 pub returns-in_default-clause-again : goal.returns-in_default-clause-again
