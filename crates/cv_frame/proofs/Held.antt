@@ -55,10 +55,10 @@ number-token n = search (rules, the_lemmas)
 number-depth : (n : ℕ) → depth (number n) ≡ 0
 number-depth n = search (rules, the_lemmas)
 
-word-token : (s : List ℕ) → is_token (word s) ≡ is_utf8 s
+pub word-token : (s : List ℕ) → is_token (word s) ≡ is_utf8 s
 word-token s = search (rules, the_lemmas)
 
-word-depth : (s : List ℕ) → depth (word s) ≡ 0
+pub word-depth : (s : List ℕ) → depth (word s) ≡ 0
 word-depth s = search (rules, the_lemmas)
 
 list-token : (ts : List Token) → is_token (tree.List ts) ≡ all_true (map is_token ts)
@@ -74,7 +74,7 @@ pub a_word : (k : ℕ) (s : List ℕ) → is_utf8 s ≡ true → Within k (word 
 a_word k s e = record { token = word-token s ∙ e; shallow = omega (arith, word-depth s) }
 
 -- bytes of ASCII
-abbrev are_low : List ℕ → Bool
+abbrev pub are_low : List ℕ → Bool
 are_low [] = true
 are_low (b ∷ bs) = nat_lt b 128 && are_low bs
 
@@ -83,10 +83,10 @@ low_at [] e k = omega arith
 low_at (b ∷ bs) e zero = ltb-true b 128 (and_parts _ _ e).0
 low_at (b ∷ bs) e (suc k) = low_at bs (and_parts _ _ e).1 k
 
-low_text : (bs : List ℕ) → are_low bs ≡ true → is_utf8 bs ≡ true
+pub low_text : (bs : List ℕ) → are_low bs ≡ true → is_utf8 bs ≡ true
 low_text bs e = is_utf8-from_IsUtf8 bs (IsUtf8-from_ascii bs (low_at bs e))
 
-a_literal : (k : ℕ) (s : List ℕ) → are_low s ≡ true → Within k (word s)
+pub a_literal : (k : ℕ) (s : List ℕ) → are_low s ≡ true → Within k (word s)
 a_literal k s e = a_word k s (low_text s e)
 
 -- each of these, and those behind them
@@ -224,12 +224,12 @@ a_body (body.Cancel actor n) k = a_list 20 _ (a_literal 20 (codes "cancel") refl
 a_body (body.Located actor n node) k = a_list 20 _ (a_literal 20 (codes "located") refl, (an_actor 19 actor, (a_number 20 n, (a_number 20 node, tt))))
 a_body (body.Destroy app) k = a_list 20 _ (a_literal 20 (codes "destroy") refl, (an_app 19 app, tt))
 
-dict-depth : (ps : List (Pair Token)) → depth (tree.Dict ps) ≡ suc (greatest_value (on_values depth ps))
+pub dict-depth : (ps : List (Pair Token)) → depth (tree.Dict ps) ≡ suc (greatest_value (on_values depth ps))
 dict-depth ps = search (rules, the_lemmas)
 
 -- a tree with a frame's members
 pub members_within : (b f s t : Token) → Within 21 b → Within 21 f → Within 21 s → Within 21 t
-    → IsTree (tree.Dict (member (codes "body") b ∷ member (codes "from") f ∷ member (codes "stamp") s ∷ member (codes "to") t ∷ []))
+    → Within 22 (tree.Dict (member (codes "body") b ∷ member (codes "from") f ∷ member (codes "stamp") s ∷ member (codes "to") t ∷ []))
 members_within b f s t h i j k =
     let ps = member (codes "body") b ∷ member (codes "from") f ∷ member (codes "stamp") s ∷ member (codes "to") t ∷ [] in
     record {
@@ -237,8 +237,11 @@ members_within b f s t h i j k =
       shallow = omega (arith, dict-depth ps, h.shallow, i.shallow, j.shallow, k.shallow);
     }
 
+pub a_frame : (f : Frame) → IsFrame f → Within 22 (frame_tree f)
+a_frame f k = members_within _ _ _ _ (a_body f.body k.body) (a_number 21 f.from) (a_number 21 f.stamp) (a_number 21 f.to)
+
 pub frame_held : (f : Frame) → IsFrame f → IsTree (frame_tree f)
-frame_held f k = members_within _ _ _ _ (a_body f.body k.body) (a_number 21 f.from) (a_number 21 f.stamp) (a_number 21 f.to)
+frame_held f k = let h = a_frame f k in record { token = h.token; shallow = omega (arith, h.shallow) }
 
 pub state_held : (s : StateView) → IsState s → IsTree (state_tree s)
 state_held s k = let h = a_state s k in record { token = h.token; shallow = omega (arith, h.shallow) }

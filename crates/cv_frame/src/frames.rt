@@ -22,7 +22,7 @@ use sqlite_items::Boxed;
 use std::alloc::Global;
 
 /// What stands behind a word in a list of so many.
-fn behind<'a>(token: &'a Token, text: &str, count: usize) -> Option<&'a [Token]>
+pub fn behind<'a>(token: &'a Token, text: &str, count: usize) -> Option<&'a [Token]>
     ensures { MatchOption result ((ts : List Token) → length ts + 1 ≡ count → token.now ≢ tree.List (word text.now ∷ ts))
         (λ ts. (length ts.now + 1 ≡ count) × (token.now ≡ tree.List (word text.now ∷ ts.now))) }
 {
@@ -272,7 +272,7 @@ fn members_of(token: &Token) -> Option<Members<'_>>
 }
 
 /// A frame, out of its tree.
-pub(crate) fn frame_of(alloc: Global, token: &Token) -> Result<Option<Frame>, OutOfMemory>
+pub fn frame_of(alloc: Global, token: &Token) -> Result<Option<Frame>, OutOfMemory>
     ensures { IfOk result (Spells IsFrame frame_tree token.now) }
 {
     let Some(members) = members_of(token) else {

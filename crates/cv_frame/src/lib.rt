@@ -5,15 +5,15 @@ pub mod fault;
 pub mod feed;
 pub mod flaw;
 pub mod format;
-mod frames;
+pub mod frames;
 pub mod laws;
 mod listing;
-mod parts;
+pub mod parts;
 mod ports;
 pub mod reading;
 mod stamps;
 mod states;
-mod trees;
+pub mod trees;
 pub mod writing;
 
 pub use fault::FrameFault;

@@ -13,7 +13,7 @@ use cv_token::{ActorId, AppId, ConnId, Token};
 pub(crate) const COUNTS: u64 = 1 << 62;
 
 /// The elements of a list of so many.
-pub(crate) fn parts_of(token: &Token, count: usize) -> Option<&[Token]>
+pub fn parts_of(token: &Token, count: usize) -> Option<&[Token]>
     ensures { MatchOption result ((ts : List Token) → length ts ≡ count → token.now ≢ tree.List ts)
         (λ ts. (length ts.now ≡ count) × (token.now ≡ tree.List ts.now)) }
 {
@@ -24,7 +24,7 @@ pub(crate) fn parts_of(token: &Token, count: usize) -> Option<&[Token]>
 }
 
 /// Whether a token is that word.
-pub(crate) fn is_word(token: &Token, text: &str) -> bool
+pub fn is_word(token: &Token, text: &str) -> bool
     ensures { IsTrue result ↔ (token.now ≡ word text.now) }
 {
     match token {
@@ -34,7 +34,7 @@ pub(crate) fn is_word(token: &Token, text: &str) -> bool
 }
 
 /// Whether a token is null.
-pub(crate) fn is_null(token: &Token) -> bool
+pub fn is_null(token: &Token) -> bool
     ensures { IsTrue result ↔ (token.now ≡ tree.Null) }
 {
     match token {
@@ -44,7 +44,7 @@ pub(crate) fn is_null(token: &Token) -> bool
 }
 
 /// A number below a limit.
-fn number_below(limit: u64, token: &Token) -> Option<u64>
+pub fn number_below(limit: u64, token: &Token) -> Option<u64>
     requires { limit ≤ 2 ^ 62 }
     ensures { Spells (λ n. n < limit) number token.now result }
 {
@@ -55,14 +55,14 @@ fn number_below(limit: u64, token: &Token) -> Option<u64>
 }
 
 /// A count of tokens, attempts or stamps.
-pub(crate) fn count_of(token: &Token) -> Option<u64>
+pub fn count_of(token: &Token) -> Option<u64>
     ensures { Spells IsCount number token.now result }
 {
     number_below(COUNTS, token)
 }
 
 /// The number of a node.
-pub(crate) fn node_of(token: &Token) -> Option<u16>
+pub fn node_of(token: &Token) -> Option<u16>
     ensures { Spells IsNode number token.now result }
 {
     let n = number_below(65, token)?;
@@ -70,7 +70,7 @@ pub(crate) fn node_of(token: &Token) -> Option<u16>
 }
 
 /// `[node,seq]`.
-pub(crate) fn app_of(token: &Token) -> Option<AppId>
+pub fn app_of(token: &Token) -> Option<AppId>
     ensures { Spells IsApp app_tree token.now result }
 {
     let parts = parts_of(token, 2)?;
@@ -80,7 +80,7 @@ pub(crate) fn app_of(token: &Token) -> Option<AppId>
 }
 
 /// `[node,seq,actor]`.
-pub(crate) fn actor_of(token: &Token) -> Option<ActorId>
+pub fn actor_of(token: &Token) -> Option<ActorId>
     ensures { Spells IsActor actor_tree token.now result }
 {
     let parts = parts_of(token, 3)?;
@@ -92,7 +92,7 @@ pub(crate) fn actor_of(token: &Token) -> Option<ActorId>
 }
 
 /// `[node,seq,place]`.
-pub(crate) fn conn_of(token: &Token) -> Option<ConnId>
+pub fn conn_of(token: &Token) -> Option<ConnId>
     ensures { Spells IsConn conn_tree token.now result }
 {
     let parts = parts_of(token, 3)?;

@@ -13,35 +13,35 @@ use cv_token::{
 use std::alloc::Global;
 
 /// A number; those that travel are below 2^62.
-pub(crate) fn number(n: u64) -> Token
+pub fn number(n: u64) -> Token
     ensures { result ≡ number n }
 {
     Token::Int(n.min(i64::MAX as u64) as i64)
 }
 
 /// A word.
-fn word(alloc: Global, text: &str) -> Result<Token, OutOfMemory>
+pub fn word(alloc: Global, text: &str) -> Result<Token, OutOfMemory>
     ensures { IfOk result (λ t. t ≡ word text.now) }
 {
     Ok(Token::Text(Text::from_string(String::from_str(alloc, text)?)))
 }
 
 /// A list of these parts.
-fn list(parts: Vec<Token>) -> Token
+pub fn list(parts: Vec<Token>) -> Token
     ensures { result ≡ tree.List parts.items }
 {
     Token::List(Items::from_vec(parts))
 }
 
 /// `[node,seq]`.
-fn app_tree(alloc: Global, app: AppId) -> Result<Token, OutOfMemory>
+pub fn app_tree(alloc: Global, app: AppId) -> Result<Token, OutOfMemory>
     ensures { IfOk result (λ t. t ≡ app_tree app) }
 {
     Ok(list(vec![in alloc; number(u64::from(app.node)), number(u64::from(app.seq))]?))
 }
 
 /// `[node,seq,actor]`.
-fn actor_tree(alloc: Global, id: ActorId) -> Result<Token, OutOfMemory>
+pub fn actor_tree(alloc: Global, id: ActorId) -> Result<Token, OutOfMemory>
     ensures { IfOk result (λ t. t ≡ actor_tree id) }
 {
     let node = number(u64::from(id.app.node));
@@ -50,7 +50,7 @@ fn actor_tree(alloc: Global, id: ActorId) -> Result<Token, OutOfMemory>
 }
 
 /// `[node,seq,place]`.
-fn conn_tree(alloc: Global, id: ConnId) -> Result<Token, OutOfMemory>
+pub fn conn_tree(alloc: Global, id: ConnId) -> Result<Token, OutOfMemory>
     ensures { IfOk result (λ t. t ≡ conn_tree id) }
 {
     let node = number(u64::from(id.app.node));
@@ -321,7 +321,7 @@ fn member(alloc: Global, key: &str, value: Token) -> Result<Pair<Token>, OutOfMe
 }
 
 /// The token tree of a frame.
-pub(crate) fn frame_tree(alloc: Global, frame: &Frame) -> Result<Token, OutOfMemory>
+pub fn frame_tree(alloc: Global, frame: &Frame) -> Result<Token, OutOfMemory>
     ensures { IfOk result (λ t. t ≡ frame_tree frame.now) }
 {
     let body = member(alloc, "body", body_tree(alloc, &frame.body)?)?;

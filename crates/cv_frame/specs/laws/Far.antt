@@ -66,7 +66,7 @@ lacks_numeral b (c ∷ cs) h other zero d within is =
     let range = digit_from_value c h.0 in elim other [ inl low ↦ omega (arith, range, is) | inr high ↦ omega (arith, range, is) ]
 lacks_numeral b (c ∷ cs) h other (suc k) d within is = lacks_numeral b cs h.1 other k d (omega arith) is
 
-lacks_digits : (b n : ℕ) → n < 2 ^ 64 → (b < 48) ⊎ (57 < b) → Lacks b (decimal n)
+pub lacks_digits : (b n : ℕ) → n < 2 ^ 64 → (b < 48) ⊎ (57 < b) → Lacks b (decimal n)
 lacks_digits b n fits other = lacks_numeral b (decimal n) (decimal_is_IsNumeral n fits).0.1 other
 
 pub no_colon : (n : ℕ) → n < 2 ^ 64 → Lacks 58 (decimal n)

@@ -23,7 +23,7 @@ pairs_of_Dict : (ps : List (Pair Token)) → pairs_step (out-Token (tree.Dict ps
 unfolding pairs_step
 pairs_of_Dict ps = ap pairs_step (ap out-Token (sym (rolls-Dict ps)) ∙ out-roll-Token (Token-F.Dict ps))
 
-same_pairs : (t : Token) (ps qs : List (Pair Token)) → t ≡ tree.Dict ps → t ≡ tree.Dict qs → ps ≡ qs
+pub same_pairs : (t : Token) (ps qs : List (Pair Token)) → t ≡ tree.Dict ps → t ≡ tree.Dict qs → ps ≡ qs
 same_pairs t ps qs e f =
     let h : Some ps ≡ Some qs = sym (pairs_of_Dict ps) ∙ ap (λ (u : Token). pairs_step (out-Token u)) (sym e ∙ f) ∙ pairs_of_Dict qs in cc
 

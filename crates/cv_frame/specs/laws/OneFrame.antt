@@ -89,7 +89,7 @@ unfolding word_of parts_of
 told (body.Token conn actor n t) = refl
 told b = refl
 
-apart : (xs ys : List ℕ) → bytes_eq xs ys ≡ false → xs ≡ ys → ⊥
+pub apart : (xs ys : List ℕ) → bytes_eq xs ys ≡ false → xs ≡ ys → ⊥
 apart xs ys differ e = let same = (bytes_eq-Decides xs ys).1 e in cc
 
 same_word : (b c : Body) → body_tree b ≡ body_tree c → word_of b ≡ word_of c

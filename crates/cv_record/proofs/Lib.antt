@@ -1,0 +1,5 @@
+pub mod Counts
+pub mod Feedless
+pub mod FirstLines
+pub mod Follow
+pub mod Standing
