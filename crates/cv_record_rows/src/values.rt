@@ -1,15 +1,18 @@
 //! The entries of the rows.
 
+use cv_entry::{Head, head_read};
 use cv_network::network_read;
 use cv_protocol::{Body, Entry, Event, Frame};
 use cv_rules::Attrs;
-use cv_token::{ActorId, AppId, ConnId, OutOfMemory, Pair, Text, Token};
+use cv_token::{ActorId, AppId, ConnId, OutOfMemory, Text, Token};
 use sqlite_items::Boxed;
 use std::alloc::Global;
 use std::test::Fail;
 
 const NETWORK: &str =
     "{\"actors\":[[\"src\",\"std.Constant\",[1,5],null],[\"snk\",\"io.Print\",[],null]],\"connections\":[[0,\"token\",1,\"token\"]]}";
+
+const HEAD: &str = "[\"node\",1,1,1,{\"node.name\":\"n\\\"1\",\"zone.id\":\"\"},0]";
 
 fn text(alloc: Global, text: &str) -> Result<Text, OutOfMemory> {
     Ok(Text::from_string(String::from_str(alloc, text)?))
@@ -29,19 +32,12 @@ fn conn(node: u16, seq: u32, place: u16) -> ConnId {
     }
 }
 
-fn attributes(alloc: Global) -> Result<Attrs, OutOfMemory> {
-    let name = Pair {
-        key: text(alloc, "node.name")?,
-        value: text(alloc, "n\"1")?,
+/// The attributes of a head that has them.
+fn attributes(alloc: Global) -> Result<Attrs, Fail> {
+    let Some(Head { spec, dropped: _ }) = head_read(alloc, HEAD.as_bytes())? else {
+        return Err("no head".into());
     };
-    let zone = Pair {
-        key: text(alloc, "zone.id")?,
-        value: text(alloc, "")?,
-    };
-    let mut attrs = Attrs::new(alloc);
-    attrs.push(name)?;
-    attrs.push(zone)?;
-    Ok(attrs)
+    Ok(spec.attrs)
 }
 
 fn deploy(alloc: Global) -> Result<Event, Fail> {
@@ -133,10 +129,10 @@ pub(crate) fn entries(alloc: Global) -> Result<Vec<Entry>, Fail> {
     push_moves(&mut events)?;
     events.push(Event::Lose { frame: ack() })?;
     let mut entries = Vec::new(alloc);
-    let mut stamp = 0;
+    let mut stamp: u64 = 1;
     for event in events {
-        stamp += 1;
         entries.push(Entry { stamp, event })?;
+        stamp = stamp.saturating_add(1);
     }
     entries.push(Entry {
         stamp: 4_611_686_018_427_387_903,
