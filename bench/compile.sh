@@ -1,5 +1,6 @@
 #!/usr/bin/env bash
-# Times `compile` on scripts with many joins and on components that hold each other many deep; it is no test. The program is built first (./calvin).
+# Times `compile` on scripts with many joins, on components that hold each other many deep, and on large components and instances; it is no test. The
+# program is built first (./calvin).
 set -u
 top="$(cd "$(dirname "$0")/.." && pwd)" || exit 2
 folder=$(mktemp -d) || exit 2
@@ -30,8 +31,22 @@ deep() {
     done
     printf 'src : std.Counter()\nc : C%d()\nsnk : io.Print()\nsrc.integer > c.in\nc.out > snk.token\n' $((depth - 1))
 }
+# As many components and instances as a script may have, one behind the other, each with eight arguments of so many letters.
+wide() {
+    local letters number arguments
+    letters=$(head -c "$1" /dev/zero | tr '\0' x)
+    printf -v arguments ', %s="'"$letters"'"' a b c d e f g h
+    for ((number = 0; number < 127; number++)); do
+        printf 'component W%d(a, b, c, d, e, f, g, h) in -> out {\n  i : text.Prefix(prefix=a)\n  .in > i.text\n  i.text > .out\n}\n' "$number"
+        printf 'w%d : W%d(%s)\n' "$number" "$number" "${arguments:2}"
+    done
+    printf 'src : std.Constant(data="x")\nsnk : io.Print()\nsrc.token > w0.in\n'
+    for ((number = 1; number < 127; number++)); do printf 'w%d.out > w%d.in\n' $((number - 1)) "$number"; done
+    printf 'w126.out > snk.token\n'
+}
 for count in 31 63 126; do lanes "$count" >"$folder/lanes$count"; done
 for depth in 4 8 16; do deep "$depth" >"$folder/deep$depth"; done
+for letters in 240 500 1000; do wide "$letters" >"$folder/wide$letters"; done
 timed() {
     local from to
     from=$(date +%s%N)
@@ -42,3 +57,4 @@ timed() {
 "$top/calvin" compile <"$top/examples/constant.calvin" >/dev/null || exit 1
 for count in 31 63 126; do timed "$((count * 32 + 16)) joins" "$folder/lanes$count"; done
 for depth in 4 8 16; do timed "components $depth deep" "$folder/deep$depth"; done
+for letters in 240 500 1000; do timed "127 instances, $(($(wc -c <"$folder/wide$letters") / 1024)) KiB" "$folder/wide$letters"; done

@@ -4,6 +4,7 @@ use Rattle.std.specs.Prelude.{nat_lt}
 use Rattle.std.proofs.lemmas.List.{length-append}
 use Rattle.std.proofs.lemmas.Bool.Decides.{nat_tests}
 use Rattle.std.proofs.lemmas.Grind.{common_steps}
+use Rattle.cv_syntax.specs.declared.tree.Item.{Item}
 use Rattle.cv_expand.specs.declared.fault.ExpandFault.{ExpandFault}
 use Rattle.cv_expand.specs.declared.flat.Actor.{Actor}
 use Rattle.cv_expand.specs.declared.flat.Instance.{Instance}
@@ -11,7 +12,8 @@ use Rattle.cv_expand.specs.declared.flat.Feed.{Feed}
 use Rattle.cv_expand.specs.declared.flat.Parts.{Parts}
 use Rattle.cv_expand.specs.Flat.{AreFew}
 use Rattle.cv_expand.specs.Walk.{Event, bad, actor_met, instance_met, feed_met}
-use Rattle.cv_expand.specs.Runs.{take_in, goes_on, run, nothing, most_places, most_feeds, place_count, with_actor, with_instance, with_feed}
+use Rattle.cv_expand.specs.Meaning.{unwalked}
+use Rattle.cv_expand.specs.Runs.{take_in, goes_on, run, most_places, most_feeds, place_count, with_actor, with_instance, with_feed}
 
 few_actor : (f g : Parts) (a : Actor) (fault : ExpandFault) (b : Bool) → nat_lt (place_count f) most_places ≡ b → AreFew f → (if b then Ok (with_actor f a) else Err fault) ≡ Ok g → AreFew g
 few_actor f g a fault true room few e =
@@ -47,5 +49,5 @@ few_run f g (e ∷ es) few is =
     let w = goes_on_ok (take_in f e) (λ h. run h es) g is in
     few_run w.0 g es (few_taken f w.0 e few w.1) w.2
 
-pub few_made : (es : List Event) (g : Parts) → run nothing es ≡ Ok g → AreFew g
-few_made es g is = few_run nothing g es (record { places = omega arith; feeds = omega arith }) is
+pub few_made : (script : List Item) (es : List Event) (g : Parts) → run (unwalked script) es ≡ Ok g → AreFew g
+few_made script es g is = few_run (unwalked script) g es (record { places = omega arith; feeds = omega arith }) is

@@ -86,12 +86,16 @@ pub record Grown (f h : Parts) (actors : List Actor) (instances : List Instance)
   pub actors_are : h.actors ≡ f.actors ++ actors
   pub instances_are : h.instances ≡ f.instances ++ instances
   pub feeds_are : h.feeds ≡ f.feeds ++ feeds
+  pub rules_are : h.rules ≡ f.rules
+  pub applies_are : h.applies ≡ f.applies
 
 grown_twice : (f g h : Parts) (xs ys : List Actor) (is js : List Instance) (fs gs : List Feed) → Grown f g xs is fs → Grown g h ys js gs → Grown f h (xs ++ ys) (is ++ js) (fs ++ gs)
 grown_twice f g h xs ys is js fs gs first second = record {
   actors_are = second.actors_are ∙ ap (λ zs. zs ++ ys) first.actors_are ∙ append_assoc f.actors xs ys;
   instances_are = second.instances_are ∙ ap (λ zs. zs ++ js) first.instances_are ∙ append_assoc f.instances is js;
   feeds_are = second.feeds_are ∙ ap (λ zs. zs ++ gs) first.feeds_are ∙ append_assoc f.feeds fs gs;
+  rules_are = second.rules_are ∙ first.rules_are;
+  applies_are = second.applies_are ∙ first.applies_are;
 }
 
 no_change : (f h : Parts) → f ≡ h → Grown f h [] [] []
@@ -99,6 +103,8 @@ no_change f h same = record {
   actors_are = ap (λ p. p.actors) (sym same) ∙ sym (append-nil f.actors);
   instances_are = ap (λ p. p.instances) (sym same) ∙ sym (append-nil f.instances);
   feeds_are = ap (λ p. p.feeds) (sym same) ∙ sym (append-nil f.feeds);
+  rules_are = ap (λ p. p.rules) (sym same);
+  applies_are = ap (λ p. p.applies) (sym same);
 }
 
 -- where there is room
@@ -114,6 +120,8 @@ grown_by f h (actor_met a) took =
       actors_are = ap (λ p. p.actors) (sym is);
       instances_are = ap (λ p. p.instances) (sym is) ∙ sym (append-nil f.instances);
       feeds_are = ap (λ p. p.feeds) (sym is) ∙ sym (append-nil f.feeds);
+      rules_are = ap (λ p. p.rules) (sym is);
+      applies_are = ap (λ p. p.applies) (sym is);
     }
 grown_by f h (instance_met i) took =
     let is = put_in (nat_lt (place_count f) most_places) (with_instance f i) h (faults.TooMany i.at) took in
@@ -121,6 +129,8 @@ grown_by f h (instance_met i) took =
       actors_are = ap (λ p. p.actors) (sym is) ∙ sym (append-nil f.actors);
       instances_are = ap (λ p. p.instances) (sym is);
       feeds_are = ap (λ p. p.feeds) (sym is) ∙ sym (append-nil f.feeds);
+      rules_are = ap (λ p. p.rules) (sym is);
+      applies_are = ap (λ p. p.applies) (sym is);
     }
 grown_by f h (feed_met j) took =
     let is = put_in (nat_lt (length f.feeds) most_feeds) (with_feed f j) h (faults.TooMany j.at) took in
@@ -128,6 +138,8 @@ grown_by f h (feed_met j) took =
       actors_are = ap (λ p. p.actors) (sym is) ∙ sym (append-nil f.actors);
       instances_are = ap (λ p. p.instances) (sym is) ∙ sym (append-nil f.instances);
       feeds_are = ap (λ p. p.feeds) (sym is);
+      rules_are = ap (λ p. p.rules) (sym is);
+      applies_are = ap (λ p. p.applies) (sym is);
     }
 
 went_on : (r : Result Parts ExpandFault) (next : Parts → Result Parts ExpandFault) (g : Parts) → goes_on r next ≡ Ok g → (h : Parts) × (r ≡ Ok h) × (next h ≡ Ok g)

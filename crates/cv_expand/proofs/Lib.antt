@@ -7,6 +7,7 @@ pub mod Gathering
 pub mod Leading
 pub mod Lookups
 pub mod Making
+pub mod Measured
 pub mod Meeting
 pub mod PathTexts
 pub mod Places

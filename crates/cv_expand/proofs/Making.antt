@@ -13,8 +13,8 @@ use Rattle.cv_expand.specs.declared.setting.World.{World}
 use Rattle.cv_expand.specs.Walk.{Event, repeat_faults, bad, bads, actor_met, instance_met, feed_met, root_spot, walk}
 use Rattle.cv_expand.specs.Components.{components_in}
 use Rattle.cv_expand.specs.Heads.{defines_in, rule_names, statements_in, constants_from, define_faults, component_faults}
-use Rattle.cv_expand.specs.Meaning.{world_of, root_faults, meaning}
-use Rattle.cv_expand.specs.Runs.{run, nothing, unless, Answers}
+use Rattle.cv_expand.specs.Meaning.{world_of, root_faults, unwalked, meaning}
+use Rattle.cv_expand.specs.Runs.{run, unless, Answers}
 use Rattle.cv_expand.specs.Bodies.{Among, Distinct, at_root, LeadsTo, IsMadeOf, paths}
 use Rattle.cv_expand.specs.Flat.{IsFlat}
 use Rattle.cv_expand.proofs.Among.{Distinct-append}
@@ -25,8 +25,8 @@ use Rattle.cv_expand.proofs.Gathering.{gather, gathered, Among-gather, actor_in,
 use Rattle.cv_expand.proofs.Unless.{passed}
 use Rattle.cv_expand.proofs.Places.{paths_of, distinct_paths}
 
-walked : (script : List Item) (parts : Parts) → meaning script ≡ Ok parts → run nothing (walk (world_of script) root_spot (statements_in script)) ≡ Ok parts
-walked script parts e = none_in_front nothing parts (root_faults script) (walk (world_of script) root_spot (statements_in script)) e
+walked : (script : List Item) (parts : Parts) → meaning script ≡ Ok parts → run (unwalked script) (walk (world_of script) root_spot (statements_in script)) ≡ Ok parts
+walked script parts e = none_in_front (unwalked script) parts (root_faults script) (walk (world_of script) root_spot (statements_in script)) e
 
 -- the walk meets just what paths lead to
 met : (w : World) (root : List Statement) → NoBad (walk w root_spot root) → (e : Event) → ((fault : ExpandFault) → e ≡ bad fault → ⊥) → LeadsTo Has w root e → Among (walk w root_spot root) e
@@ -40,8 +40,8 @@ made_of script parts e =
     let root = statements_in script in
     let es : List Event = walk w root_spot root in
     let ran = walked script parts e in
-    let good : NoBad es = no_bad nothing parts es ran in
-    let all = grown nothing parts es ran in
+    let good : NoBad es = no_bad (unwalked script) parts es ran in
+    let all = grown (unwalked script) parts es ran in
     record {
       actors = λ a. (
         λ h. let r = gathered actor_in es a (subst (λ xs. Among xs a) all.actors_are h) in
@@ -58,6 +58,8 @@ made_of script parts e =
             met_where_led w root root_spot root at_root (feed_met f) (subst (Among es) (is_feed r.0 f r.2) r.1),
         λ h. subst (λ xs. Among xs f) (sym all.feeds_are) (Among-gather feed_in es (feed_met f) f (met w root good (feed_met f) (λ fault is. cc) h) (inl refl)),
       );
+      rules = all.rules_are;
+      applies = all.applies_are;
     }
 
 -- ---- paths by sort
@@ -111,8 +113,8 @@ pub distinct_of : (script : List Item) (parts : Parts) → meaning script ≡ Ok
 distinct_of script parts e =
     let es : List Event = walk (world_of script) root_spot (statements_in script) in
     let ran = walked script parts e in
-    let all = grown nothing parts es ran in
-    let d : Distinct (paths_of es) = distinct_paths (world_of script) root_spot (statements_in script) (no_bad nothing parts es ran) in
+    let all = grown (unwalked script) parts es ran in
+    let d : Distinct (paths_of es) = distinct_paths (world_of script) root_spot (statements_in script) (no_bad (unwalked script) parts es ran) in
     subst (λ xs. Distinct (map (λ a. a.path) xs ++ map (λ i. i.path) parts.instances)) (sym all.actors_are)
     (subst (λ xs. Distinct (actor_paths es ++ map (λ i. i.path) xs)) (sym all.instances_are)
     (Distinct-append (actor_paths es) (instance_paths es) (distinct_actors es d) (distinct_instances es d) (sorts_apart es d)))
@@ -123,7 +125,7 @@ distinct_of script parts e =
 pub whole : (script : List Item) (defines : List (Pair Given)) (components : List Component) (f : Parts) (x y z u : Unit {0}) (r : Result Parts ExpandFault)
     → unless (define_faults [] (defines_in script)) (constants_from [] (defines_in script)) ≡ Ok defines
     → unless (component_faults [] (components_in script)) x ≡ Ok y → unless (repeat_faults [] (rule_names script)) z ≡ Ok u
-    → components ≡ components_in script → f ≡ nothing
+    → components ≡ components_in script → f ≡ unwalked script
     → Answers r (run f (walk (record { components = components; defines = defines }) root_spot (statements_in script)))
     → Answers r (meaning script)
 whole script defines components f x y z u r constants heads rules found empty answer =
@@ -138,5 +140,5 @@ answer_made script (Ok parts) e = made_of script parts e
 answer_made script (Err fault) e = tt
 
 pub answer_flat : (script : List Item) (r : Result Parts ExpandFault) → Answers r (meaning script) → IfOk r IsFlat
-answer_flat script (Ok parts) e = record { few = few_made (bads (root_faults script) ++ walk (world_of script) root_spot (statements_in script)) parts e; distinct = distinct_of script parts e }
+answer_flat script (Ok parts) e = record { few = few_made script (bads (root_faults script) ++ walk (world_of script) root_spot (statements_in script)) parts e; distinct = distinct_of script parts e }
 answer_flat script (Err fault) e = tt

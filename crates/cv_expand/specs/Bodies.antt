@@ -20,7 +20,7 @@ use Rattle.cv_expand.specs.declared.setting.Spot.{Spot}
 use Rattle.cv_expand.specs.declared.setting.Seen.{Seen}
 use Rattle.cv_expand.specs.Components.{component_of}
 use Rattle.cv_expand.specs.Walk.{dotted, actor_at, instance_at, inside, root_spot, source_given, is_value, constant_at, feed_at}
-use Rattle.cv_expand.specs.Heads.{statements_in}
+use Rattle.cv_expand.specs.Heads.{rules_in, applies_in, statements_in}
 use Rattle.cv_expand.specs.Meaning.{world_of}
 
 -- x is one of these
@@ -91,11 +91,13 @@ HasFeed w s body f =
 abbrev pub LeadsTo : {X : Type 0} → (World → Spot → List Statement → X → Type 0) → World → List Statement → X → Type 0
 LeadsTo Has w root x = (s : Spot) × (body : List Statement) × Leads w root s body × Has w s body x
 
--- exactly what paths lead to
+-- exactly what paths lead to, and the rules and applies as the script has them
 pub record IsMadeOf (script : List Item) (parts : Parts) : Type 0 where
   pub actors : (a : Actor) → Among parts.actors a ↔ LeadsTo HasActor (world_of script) (statements_in script) a
   pub instances : (i : Instance) → Among parts.instances i ↔ LeadsTo HasInstance (world_of script) (statements_in script) i
   pub feeds : (f : Feed) → Among parts.feeds f ↔ LeadsTo HasFeed (world_of script) (statements_in script) f
+  pub rules : parts.rules ≡ rules_in script
+  pub applies : parts.applies ≡ applies_in script
 
 -- the paths of the actors and of the instances
 abbrev pub paths : Parts → List (List Step)

@@ -1,11 +1,13 @@
 -- What may be wrong at the root before the statements are walked.
-use Rattle.std.specs.Prelude.{ℕ, is_none, List, [], ◌∷◌, ◌++◌, Option, Some, None}
+use Rattle.std.specs.Prelude.{ℕ, is_none, List, [], ◌∷◌, ◌++◌, map, Option, Some, None}
 use Rattle.cv_token.specs.declared.pairs.Pair.{Pair}
 use Rattle.cv_readers.specs.declared.name.Name.{Name}
 use Rattle.cv_syntax.specs.declared.tree.Value.{Value}
 use Rattle.cv_syntax.specs.declared.tree.Value.TheVariants as values
 use Rattle.cv_syntax.specs.declared.tree.Define.{Define}
+use Rattle.cv_syntax.specs.declared.tree.Apply.{Apply}
 use Rattle.cv_syntax.specs.declared.tree.Component.{Component}
+use Rattle.cv_syntax.specs.declared.tree.NamedRule.{NamedRule}
 use Rattle.cv_syntax.specs.declared.tree.Statement.{Statement}
 use Rattle.cv_syntax.specs.declared.tree.Item.{Item}
 use Rattle.cv_syntax.specs.declared.tree.Item.TheVariants as items
@@ -29,17 +31,32 @@ abbrev pub defines_in : List Item → List Define
 defines_in [] = []
 defines_in (i ∷ script) = define_by i ++ defines_in script
 
-abbrev pub rule_by : Item → List Name
-rule_by (items.Rule r) = r.name ∷ []
+abbrev pub rule_by : Item → List NamedRule
+rule_by (items.Rule r) = r ∷ []
 rule_by (items.Define d) = []
 rule_by (items.Component c) = []
 rule_by (items.Apply a) = []
 rule_by (items.Statement s) = []
 
--- the names of the rules
+-- the rules, in written order
+abbrev pub rules_in : List Item → List NamedRule
+rules_in [] = []
+rules_in (i ∷ script) = rule_by i ++ rules_in script
+
 abbrev pub rule_names : List Item → List Name
-rule_names [] = []
-rule_names (i ∷ script) = rule_by i ++ rule_names script
+rule_names script = map (λ r. r.name) (rules_in script)
+
+abbrev pub apply_by : Item → List Apply
+apply_by (items.Apply a) = a ∷ []
+apply_by (items.Define d) = []
+apply_by (items.Component c) = []
+apply_by (items.Rule r) = []
+apply_by (items.Statement s) = []
+
+-- the applies, in written order
+abbrev pub applies_in : List Item → List Apply
+applies_in [] = []
+applies_in (i ∷ script) = apply_by i ++ applies_in script
 
 abbrev pub statement_by : Item → List Statement
 statement_by (items.Statement s) = s ∷ []

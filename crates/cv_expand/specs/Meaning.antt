@@ -6,8 +6,8 @@ use Rattle.cv_expand.specs.declared.flat.Parts.{Parts}
 use Rattle.cv_expand.specs.declared.setting.World.{World}
 use Rattle.cv_expand.specs.Components.{components_in}
 use Rattle.cv_expand.specs.Walk.{repeat_faults, root_spot, bads, walk}
-use Rattle.cv_expand.specs.Heads.{defines_in, rule_names, statements_in, constants_from, define_faults, component_faults}
-use Rattle.cv_expand.specs.Runs.{run, nothing}
+use Rattle.cv_expand.specs.Heads.{defines_in, rule_names, rules_in, applies_in, statements_in, constants_from, define_faults, component_faults}
+use Rattle.cv_expand.specs.Runs.{run}
 
 -- the components and the constants of a script
 abbrev pub world_of : List Item → World
@@ -18,6 +18,10 @@ abbrev pub root_faults : List Item → List ExpandFault
 root_faults script =
     define_faults [] (defines_in script) ++ (component_faults [] (components_in script) ++ repeat_faults [] (rule_names script))
 
--- the parts that the walk meets, or the first fault that it meets
+-- the rules and the applies as they are written, where the walk has met nothing yet
+abbrev pub unwalked : List Item → Parts
+unwalked script = record { actors = []; instances = []; feeds = []; rules = rules_in script; applies = applies_in script }
+
+-- these and the parts that the walk meets, or the first fault that it meets
 abbrev pub meaning : List Item → Result Parts ExpandFault
-meaning script = run nothing (bads (root_faults script) ++ walk (world_of script) root_spot (statements_in script))
+meaning script = run (unwalked script) (bads (root_faults script) ++ walk (world_of script) root_spot (statements_in script))

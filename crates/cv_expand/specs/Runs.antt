@@ -19,13 +19,13 @@ abbrev pub place_count : Parts → ℕ
 place_count f = length f.actors + length f.instances
 
 abbrev pub with_actor : Parts → Actor → Parts
-with_actor f a = record { actors = f.actors ++ a ∷ []; instances = f.instances; feeds = f.feeds }
+with_actor f a = record { actors = f.actors ++ a ∷ []; instances = f.instances; feeds = f.feeds; rules = f.rules; applies = f.applies }
 
 abbrev pub with_instance : Parts → Instance → Parts
-with_instance f i = record { actors = f.actors; instances = f.instances ++ i ∷ []; feeds = f.feeds }
+with_instance f i = record { actors = f.actors; instances = f.instances ++ i ∷ []; feeds = f.feeds; rules = f.rules; applies = f.applies }
 
 abbrev pub with_feed : Parts → Feed → Parts
-with_feed f j = record { actors = f.actors; instances = f.instances; feeds = f.feeds ++ j ∷ [] }
+with_feed f j = record { actors = f.actors; instances = f.instances; feeds = f.feeds ++ j ∷ []; rules = f.rules; applies = f.applies }
 
 abbrev pub take_in : Parts → Event → Result Parts ExpandFault
 take_in f (bad fault) = Err fault
@@ -41,9 +41,6 @@ goes_on (Err fault) next = Err fault
 abbrev pub run : Parts → List Event → Result Parts ExpandFault
 run f [] = Ok f
 run f (e ∷ es) = goes_on (take_in f e) (λ g. run g es)
-
-abbrev pub nothing : Parts
-nothing = record { actors = []; instances = []; feeds = [] }
 
 -- ---- answers
 

@@ -1,8 +1,8 @@
 //! A script expanded: its components inlined, its names replaced by what they stand for.
 
-ghost use Rattle.cv_expand.specs.Meaning.{meaning};
 ghost use Rattle.std.specs.Prelude.{◌≡◌, IfOk};
-ghost use Rattle.cv_expand.specs.Runs.{Answers, nothing};
+ghost use Rattle.cv_expand.specs.Meaning.{meaning, unwalked};
+ghost use Rattle.cv_expand.specs.Runs.{Answers};
 ghost use Rattle.cv_expand.specs.Bodies.{Distinct, IsMadeOf, paths};
 ghost use Rattle.cv_expand.specs.Flat.{IsFlat};
 
@@ -11,14 +11,17 @@ use crate::components::Components;
 use crate::constants::constants;
 use crate::fault::ExpandFault;
 use crate::flat::{Flat, Parts};
+use crate::rules::{applies_of, rules_of};
 use crate::setting::World;
 use crate::walking::walk_root;
-use cv_syntax::Script;
+use cv_syntax::{Item, Script};
+use cv_token::OutOfMemory;
 use sqlite_items::Items;
 use std::alloc::Global;
 
-/// The actors, component instances and joins of a script in the order of its walk, or the first fault that the walk
-/// meets: those of the constants, then of the components, then of the rules, then of the root's statements.
+/// The actors, component instances and joins of a script in the order of its walk, with its rules and applies as they are
+/// written, or the first fault that the walk meets: those of the constants, then of the components, then of the rules,
+/// then of the root's statements.
 pub fn expand(alloc: Global, script: &Script) -> Result<Flat, ExpandFault>
     ensures exact { Answers result (meaning (script.now).items) }
     ensures made { IfOk result (λ flat. IsMadeOf (script.now).items flat) }
@@ -42,16 +45,21 @@ fn parts_of(alloc: Global, script: &Script) -> Result<Parts, ExpandFault>
         components,
         defines,
     };
-    walk_root(alloc, &world, items, nothing(alloc))
+    let parts = unwalked(alloc, items)?;
+    walk_root(alloc, &world, items, parts)
 }
 
-/// Nothing was met yet.
-fn nothing(alloc: Global) -> Parts
-    ensures { result ≡ nothing }
+/// The rules and applies of a script; nothing else was met yet.
+fn unwalked(alloc: Global, script: &[Item]) -> Result<Parts, OutOfMemory>
+    ensures { IfOk result (λ parts. parts ≡ unwalked script.now) }
 {
-    Parts {
+    let rules = rules_of(alloc, script)?;
+    let applies = applies_of(alloc, script)?;
+    Ok(Parts {
         actors: Items::new(alloc),
         instances: Items::new(alloc),
         feeds: Items::new(alloc),
-    }
+        rules,
+        applies,
+    })
 }

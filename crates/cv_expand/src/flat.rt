@@ -6,7 +6,7 @@ ghost use Rattle.cv_expand.specs.Flat.{IsFlat};
 use crate::path::{Path, Step};
 use cv_lex::NameText;
 use cv_readers::Name;
-use cv_syntax::{Literal, Target};
+use cv_syntax::{Apply, Literal, NamedRule, Target};
 use cv_token::Text;
 use sqlite_items::Items;
 use std::marker::Model;
@@ -65,12 +65,14 @@ pub struct Feed {
     pub target_at: u32,
 }
 
-/// Actors, instances and joins in the order in which the walk meets them.
+/// Actors, instances and joins in the order in which the walk meets them; rules and applies as they are written.
 #[derive(Drop)]
 pub struct Parts {
     pub actors: Items<Actor>,
     pub instances: Items<Instance>,
     pub feeds: Items<Feed>,
+    pub rules: Items<NamedRule>,
+    pub applies: Items<Apply>,
 }
 
 /// A script with its components inlined: at most 256 actors and instances together, no two at one path, and at most 4,096
@@ -82,13 +84,14 @@ pub struct Flat {
 
 impl Model for Flat {
     ghost use Rattle.std.specs.Coded.{codes};
+    ghost use Rattle.cv_syntax.specs.contracts.tree.Factor as factor;
     ghost use Rattle.cv_syntax.specs.contracts.tree.Literal as literal;
     ghost use Rattle.cv_expand.specs.declared.flat.Parts.{Parts};
     ghost use Rattle.cv_expand.specs.Flat.{IsFlat};
 
     ghost Value = { Parts };
 
-    ghost coded = { Prim.hlevel (codes, literal.the_row.coded) };
+    ghost coded = { Prim.hlevel (codes, literal.the_row.coded, factor.the_row.coded) };
 
     ghost view = { λ f. f.parts };
 

@@ -14,6 +14,7 @@ mod joins;
 pub mod named;
 pub mod path;
 mod putting;
+mod rules;
 mod setting;
 mod walking;
 

@@ -27,17 +27,9 @@ pub(crate) fn put_actor(flat: Parts, actor: Actor) -> Result<Parts, ExpandFault>
     if !has_place(&flat) {
         return Err(ExpandFault::TooMany { at: actor.at });
     }
-    let Parts {
-        mut actors,
-        instances,
-        feeds,
-    } = flat;
-    actors.push(actor)?;
-    Ok(Parts {
-        actors,
-        instances,
-        feeds,
-    })
+    let mut flat = flat;
+    flat.actors.push(actor)?;
+    Ok(flat)
 }
 
 /// The parts, and one more instance.
@@ -47,17 +39,9 @@ pub(crate) fn put_instance(flat: Parts, instance: Instance) -> Result<Parts, Exp
     if !has_place(&flat) {
         return Err(ExpandFault::TooMany { at: instance.at });
     }
-    let Parts {
-        actors,
-        mut instances,
-        feeds,
-    } = flat;
-    instances.push(instance)?;
-    Ok(Parts {
-        actors,
-        instances,
-        feeds,
-    })
+    let mut flat = flat;
+    flat.instances.push(instance)?;
+    Ok(flat)
 }
 
 /// The parts, and one more join to a target.
@@ -67,15 +51,7 @@ pub(crate) fn put_feed(flat: Parts, feed: Feed) -> Result<Parts, ExpandFault>
     if flat.feeds.len() >= MOST_FEEDS {
         return Err(ExpandFault::TooMany { at: feed.at });
     }
-    let Parts {
-        actors,
-        instances,
-        mut feeds,
-    } = flat;
-    feeds.push(feed)?;
-    Ok(Parts {
-        actors,
-        instances,
-        feeds,
-    })
+    let mut flat = flat;
+    flat.feeds.push(feed)?;
+    Ok(flat)
 }
