@@ -14,4 +14,4 @@ pub mod writing;
 
 pub use head::Head;
 pub use reading::{entry_read, head_read};
-pub use writing::{entry_text, head_text};
+pub use writing::{entry_text, head_text, node_text, step_text};

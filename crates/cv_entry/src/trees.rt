@@ -4,14 +4,13 @@ ghost use Rattle.std.specs.Prelude.{◌≡◌, ℕ, List, IfOk, [], ◌∷◌};
 ghost use Rattle.cv_token.specs.declared.token.Token.TheVariants as tree;
 ghost use Rattle.cv_protocol.specs.declared.event.Event.TheVariants as event;
 ghost use Rattle.cv_frame.specs.Trees.{number, word, app_tree, actor_tree, conn_tree, frame_tree};
-ghost use Rattle.cv_entry.specs.Texts.{head_of};
 ghost use Rattle.cv_entry.specs.Trees.{attr_member, attrs_tree, event_tree, entry_tree, head_tree};
 
 use cv_frame::trees::{actor_tree, app_tree, conn_tree, frame_tree, list, number, word};
 use cv_kinds::Network;
 use cv_network::network_token;
-use cv_protocol::{Entry, Event, Frame, Journal};
-use cv_rules::Attrs;
+use cv_protocol::{Event, Frame};
+use cv_rules::{Attrs, NodeSpec};
 use cv_token::{ActorId, AppId, ConnId, OutOfMemory, Pair, PairsOf, Text, Token};
 use sqlite_items::Items;
 use std::alloc::Global;
@@ -138,21 +137,21 @@ fn event_tree(alloc: Global, event: &Event) -> Result<Token, OutOfMemory>
 }
 
 /// The token tree of an entry.
-pub(crate) fn entry_tree(alloc: Global, entry: &Entry) -> Result<Token, OutOfMemory>
-    ensures { IfOk result (λ t. t ≡ entry_tree entry.now) }
+pub(crate) fn entry_tree(alloc: Global, stamp: u64, event: &Event) -> Result<Token, OutOfMemory>
+    ensures { IfOk result (λ t. t ≡ entry_tree (record { stamp = stamp; event = event.now })) }
 {
-    let event = event_tree(alloc, &entry.event)?;
-    Ok(list(vec![in alloc; number(entry.stamp), event]?))
+    let event = event_tree(alloc, event)?;
+    Ok(list(vec![in alloc; number(stamp), event]?))
 }
 
 /// The token tree of what stands before a journal's entries.
-pub(crate) fn head_tree(alloc: Global, journal: &Journal) -> Result<Token, OutOfMemory>
-    ensures { IfOk result (λ t. t ≡ head_tree (head_of journal.now)) }
+pub(crate) fn head_tree(alloc: Global, spec: &NodeSpec, dropped: u64) -> Result<Token, OutOfMemory>
+    ensures { IfOk result (λ t. t ≡ head_tree (record { spec = spec.now; dropped = dropped })) }
 {
     let name = word(alloc, "node")?;
-    let no = number(u64::from(journal.spec.no));
-    let room = number(u64::from(journal.spec.room));
-    let window = number(u64::from(journal.spec.window));
-    let attrs = attrs_tree(alloc, &journal.spec.attrs)?;
-    Ok(list(vec![in alloc; name, no, room, window, attrs, number(journal.dropped)]?))
+    let no = number(u64::from(spec.no));
+    let room = number(u64::from(spec.room));
+    let window = number(u64::from(spec.window));
+    let attrs = attrs_tree(alloc, &spec.attrs)?;
+    Ok(list(vec![in alloc; name, no, room, window, attrs, number(dropped)]?))
 }

@@ -21,7 +21,7 @@ lines-within : (s : List ℕ) → IsWithinLine s → lines_in s ≡ 0
 lines-within [] h = refl
 lines-within (b ∷ s) h = rw (ne_eqb b 10 (All-head Other b s h)) (omega (arith, lines-within s (All-tail Other b s h)))
 
-lines-line : (s : List ℕ) → IsWithinLine s → lines_in (line s) ≡ 1
+pub lines-line : (s : List ℕ) → IsWithinLine s → lines_in (line s) ≡ 1
 lines-line s h = omega (arith, lines-append s (10 ∷ []), lines-within s h)
 
 lines-entries : (es : List Entry) → All IsEntry es → lines_in (flat_map entry_line es) ≡ length es

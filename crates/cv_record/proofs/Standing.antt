@@ -99,7 +99,7 @@ first_line (b ∷ bytes) = longer (b == 10) refl (first_line bytes)
     longer false e (inl f) = inl (b ∷ f.0, f.1, All-cons (λ b. b ≢ 10) b f.0 (other b e) f.2, ap (λ (l : List ℕ). b ∷ l) f.3)
     longer false e (inr h) = inr (All-cons (λ b. b ≢ 10) b bytes (other b e) h)
 
-some_line : (z : List ℕ) → line z ≢ []
+pub some_line : (z : List ℕ) → line z ≢ []
 some_line z e = let n = ap length e in omega (arith, length-append z (10 ∷ []))
 
 pub first_bad : (bytes : List ℕ) (js : List JournalView) (rest : List ℕ) (above number : ℕ) → Stands bytes js rest above number → BeginsWithNoHead above rest → rest ≢ [] → IsFirstBad number bytes

@@ -48,3 +48,12 @@ pub record IsFirstBad (number : ℕ) (bytes : List ℕ) : Type 0 where
 abbrev pub IsTold : LineFault → List ℕ → Type 0
 IsTold (fault.BadLine number) bytes = IsFirstBad number bytes
 IsTold fault.OutOfMemory bytes = Unit {0}
+
+-- bytes whose first bad line is that one are refused by it, or for want of memory
+abbrev pub IsRefusedBy : ℕ → LineFault → Type 0
+IsRefusedBy number (fault.BadLine told) = told ≡ number
+IsRefusedBy number fault.OutOfMemory = Unit {0}
+
+-- no bytes have two first bad lines
+abbrev pub OneFirstBad : Type 0
+OneFirstBad = (number other : ℕ) (bytes : List ℕ) → IsFirstBad number bytes → IsFirstBad other bytes → number ≡ other

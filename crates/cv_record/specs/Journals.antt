@@ -1,9 +1,13 @@
 -- The text of journals: for each node its first line, and a line for each entry.
-use Rattle.std.specs.Prelude.{◌≡◌, ℕ, ◌<◌, List, [], ◌∷◌, ◌++◌, All, flat_map}
+use Rattle.std.specs.Prelude.{◌≡◌, ℕ, ◌<◌, List, [], ◌∷◌, ◌++◌, All, map, flat_map}
 use Rattle.cv_protocol.specs.declared.event.Entry.{Entry}
+use Rattle.cv_rules.specs.declared.attrs.NodeSpec.{NodeSpec}
 use Rattle.cv_protocol.specs.declared.event.Journal.{Journal}
+use Rattle.cv_protocol.specs.declared.event.Record.{Record}
+use Rattle.cv_protocol.specs.declared.event.Step.{Step}
+use Rattle.cv_protocol.specs.Journals.{entries_of}
 use Rattle.cv_entry.specs.declared.head.Head.{Head}
-use Rattle.cv_entry.specs.Texts.{entry_spelling, head_of, head_spelling}
+use Rattle.cv_entry.specs.Texts.{entry_spelling, head_of, head_spelling, whole}
 use Rattle.cv_entry.specs.Values.{IsEntry, IsHead}
 
 -- what a journal says, wherever it lies in memory
@@ -13,6 +17,14 @@ pub record JournalView : Type 0 where
 
 abbrev pub view_of : Journal → JournalView
 view_of j = record { head = head_of j; entries = j.entries.items }
+
+-- the journal of a node in the steps of a record: all of its entries, in order
+abbrev pub journal_in : List Step → NodeSpec → JournalView
+journal_in steps spec = record { head = whole spec; entries = entries_of spec.no steps }
+
+-- the journals in a record, one for each of its nodes
+abbrev pub journals_in : Record → List JournalView
+journals_in m = map (journal_in m.entries) m.specs
 
 -- a text with a line feed behind it
 abbrev pub line : List ℕ → List ℕ

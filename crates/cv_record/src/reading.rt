@@ -1,8 +1,8 @@
 //! Journals out of text.
 
-ghost use Rattle.std.specs.Prelude.{◌≡◌, List, map, IfOk, IfErr, MatchResult};
+ghost use Rattle.std.specs.Prelude.{◌≡◌, ℕ, List, map, IfOk, IfErr, MatchResult};
 ghost use Rattle.cv_record.specs.declared.fault.LineFault.TheVariants as fault;
-ghost use Rattle.cv_record.specs.Faults.{IsTold};
+ghost use Rattle.cv_record.specs.Faults.{IsFirstBad, IsRefusedBy, IsTold};
 ghost use Rattle.cv_record.specs.Journals.{AreJournals, JournalView, journals_text, view_of};
 
 use crate::entries::{Part, read_journal};
@@ -20,6 +20,9 @@ pub fn read(alloc: Global, bytes: &[u8]) -> Result<Vec<Journal>, LineFault>
     ensures again { (js : List JournalView) → AreJournals js → bytes.now ≡ journals_text js
         → MatchResult result (λ found. map view_of found.items ≡ js) (λ f. f ≡ fault.OutOfMemory) }
     ensures told { IfErr result (λ f. IsTold f bytes.now) }
+
+    // Bytes with a first line that is not of the form are refused by just that line.
+    ensures only { (number : ℕ) → IsFirstBad number bytes.now → MatchResult result (λ found. ⊥) (λ f. IsRefusedBy number f) }
 {
     let mut journals = Vec::new(alloc);
     let mut rest = bytes;
