@@ -1,3 +1,4 @@
+pub mod Patience
+pub mod Records
 pub mod Sweeps
 pub mod Turns
-pub mod Records

@@ -17,34 +17,35 @@ use Rattle.cv_node.specs.Counts.{firing_count, is_firing, journal_length}
 use Rattle.cv_node.specs.Journalled.{Journalled, Steps, entry_of_row}
 use Rattle.cv_node.specs.Polls.{HasPolled, Waits}
 use Rattle.cv_alone.specs.declared.sweep.Swept.{Swept}
-use Rattle.cv_alone.specs.Going.{GoesOn, Polls, are_own, is_own, swept_by}
+use Rattle.cv_alone.specs.Going.{GoesOn, Polls, all_may, is_prompt, swept_by}
 use Rattle.cv_alone.specs.Resting.{AllWait, WaitsFor, actor_id, conn_id, earlier, is_untimed, until_from, until_in, waits_for_none}
 
 -- 1. Going on
 
-pub goes_on_self : (j : Journalled) → GoesOn j j 0
-goes_on_self j = record { more = []; appends = sym (append-nil j.entries); own = refl; firings = refl; based = refl; few = λ h. h }
+pub goes_on_self : (may : Event → Bool) (j : Journalled) → GoesOn may j j 0
+goes_on_self may j = record { more = []; appends = sym (append-nil j.entries); own = refl; firings = refl; based = refl; few = λ h. h }
 
-own_head : (own : Bool) (xs ys : List Entry) → own && are_own xs ≡ true → (are_own xs ≡ true → are_own (xs ++ ys) ≡ true) → own && are_own (xs ++ ys) ≡ true
-own_head true xs ys h below = below h
-own_head false xs ys h below = h
+own_head : (may : Event → Bool) (own : Bool) (xs ys : List Entry) → own && all_may may xs ≡ true → (all_may may xs ≡ true → all_may may (xs ++ ys) ≡ true) → own && all_may may (xs ++ ys) ≡ true
+own_head may true xs ys h below = below h
+own_head may false xs ys h below = h
 
 own_one : (own : Bool) → own ≡ true → own && true ≡ true
 own_one true is = refl
 own_one false is = is
 
-own_append : (xs ys : List Entry) → are_own xs ≡ true → are_own ys ≡ true → are_own (xs ++ ys) ≡ true
-own_append [] ys x y = y
-own_append (e ∷ xs) ys x y = own_head (is_own e.event) xs ys x (λ h. own_append xs ys h y)
+own_append : (may : Event → Bool) (xs ys : List Entry) → all_may may xs ≡ true → all_may may ys ≡ true → all_may may (xs ++ ys) ≡ true
+own_append may [] ys x y = y
+own_append may (e ∷ xs) ys x y =
+    own_head may (may e.event) xs ys x (λ h. own_append may xs ys h y)
 
 count_append : (xs ys : List Entry) → firing_count (xs ++ ys) ≡ firing_count xs + firing_count ys
 count_append xs ys = sum_by-append (λ (e : Entry). if is_firing e.event then 1 else 0) xs ys
 
-pub goes_on_step : (a b c : Journalled) (n m : ℕ) → GoesOn a b n → GoesOn b c m → GoesOn a c (n + m)
-goes_on_step a b c n m first second = record {
+pub goes_on_step : (may : Event → Bool) (a b c : Journalled) (n m : ℕ) → GoesOn may a b n → GoesOn may b c m → GoesOn may a c (n + m)
+goes_on_step may a b c n m first second = record {
   more = first.more ++ second.more;
   appends = second.appends ∙ ap (λ (es : List Entry). es ++ second.more) first.appends ∙ append_assoc a.entries first.more second.more;
-  own = own_append first.more second.more first.own second.own;
+  own = own_append may first.more second.more first.own second.own;
   firings = omega (arith, count_append first.more second.more, first.firings, second.firings);
   based = second.based ∙ first.based;
   few = λ h. second.few (first.few h);
@@ -53,11 +54,11 @@ goes_on_step a b c n m first second = record {
 abbrev counts : Event → ℕ
 counts e = if is_firing e then 1 else 0
 
-pub goes_on_entry : (a b : Journalled) (e : Event) (s : Sent) → Steps a e s b → is_own e ≡ true → length a.entries < journal_length → GoesOn a b (counts e)
-goes_on_entry a b e s steps own few = record {
+pub goes_on_entry : (may : Event → Bool) (a b : Journalled) (e : Event) (s : Sent) → Steps a e s b → may e ≡ true → length a.entries < journal_length → GoesOn may a b (counts e)
+goes_on_entry may a b e s steps own few = record {
   more = entry_of_row a.state e ∷ [];
   appends = steps.appends;
-  own = own_one (is_own e) own;
+  own = own_one (may e) own;
   firings = omega arith;
   based = steps.based;
   few = λ h. omega (arith, few, ap length steps.appends, length-append a.entries (entry_of_row a.state e ∷ []));
@@ -67,28 +68,28 @@ pub longer_by_entry : (a b : Journalled) (e : Event) (s : Sent) → Steps a e s 
 longer_by_entry a b e s steps =
     omega (arith, ap length steps.appends, length-append a.entries (entry_of_row a.state e ∷ []))
 
-pub not_shorter : (a b : Journalled) (n : ℕ) → GoesOn a b n → length a.entries ≤ length b.entries
-not_shorter a b n g = omega (arith, ap length g.appends, length-append a.entries g.more)
+pub not_shorter : (may : Event → Bool) (a b : Journalled) (n : ℕ) → GoesOn may a b n → length a.entries ≤ length b.entries
+not_shorter may a b n g = omega (arith, ap length g.appends, length-append a.entries g.more)
 
 -- 2. A sweep over the connections
 
 pub record PassesSoFar (start now : Journalled) (passed : Bool) (place : ℕ) : Type 0 where
-  pub goes_on : GoesOn start now 0
+  pub goes_on : GoesOn is_prompt start now 0
   pub none : passed ≡ false → (now ≡ start) × ((k : ℕ) → k < place → row start.state (event.Pass (conn_id k)) ≡ None)
   pub more : passed ≡ true → length start.entries < length now.entries
 
 pub passes_first : (start : Journalled) → PassesSoFar start start false 0
 passes_first start = record {
-  goes_on = goes_on_self start;
+  goes_on = goes_on_self is_prompt start;
   none = λ h. (refl, λ k low. absurd (omega (arith, low)));
   more = λ h. absurd (cc);
 }
 
 passes_on : (start now next : Journalled) (passed : Bool) (place : ℕ) → PassesSoFar start now passed place → Steps now (event.Pass (conn_id place)) sent.Nothing next → length now.entries < journal_length → PassesSoFar start next true (place + 1)
 passes_on start now next passed place before steps few = record {
-  goes_on = goes_on_step start now next 0 0 before.goes_on (goes_on_entry now next (event.Pass (conn_id place)) sent.Nothing steps refl few);
+  goes_on = goes_on_step is_prompt start now next 0 0 before.goes_on (goes_on_entry is_prompt now next (event.Pass (conn_id place)) sent.Nothing steps refl few);
   none = λ h. absurd (cc);
-  more = λ h. omega (arith, not_shorter start now 0 before.goes_on, longer_by_entry now next (event.Pass (conn_id place)) sent.Nothing steps);
+  more = λ h. omega (arith, not_shorter is_prompt start now 0 before.goes_on, longer_by_entry now next (event.Pass (conn_id place)) sent.Nothing steps);
 }
 
 abbrev PassOutcome : Journalled → ℕ → Bool → Journalled → Type 0
@@ -99,7 +100,7 @@ pub passes_next : (start now next : Journalled) (passed moved : Bool) (place : �
 passes_next start now next true true place before steps few = passes_on start now next true place before steps few
 passes_next start now next false true place before steps few = passes_on start now next false place before steps few
 passes_next start now next true false place before same few = record {
-  goes_on = subst (λ (j : Journalled). GoesOn start j 0) (sym same.0) before.goes_on;
+  goes_on = subst (λ (j : Journalled). GoesOn is_prompt start j 0) (sym same.0) before.goes_on;
   none = λ h. absurd (cc);
   more = λ h. subst (λ (j : Journalled). length start.entries < length j.entries) (sym same.0) (before.more refl);
 }
@@ -107,7 +108,7 @@ passes_next start now next false false place before same few =
     let unchanged : now ≡ start = (before.none refl).0 in
     let here = subst (λ (j : Journalled). row j.state (event.Pass (conn_id place)) ≡ None) unchanged same.1 in
     record {
-      goes_on = subst (λ (j : Journalled). GoesOn start j 0) (sym same.0) before.goes_on;
+      goes_on = subst (λ (j : Journalled). GoesOn is_prompt start j 0) (sym same.0) before.goes_on;
       none = λ h. (same.0 ∙ unchanged, below_more (λ k. row start.state (event.Pass (conn_id k)) ≡ None) place (before.none refl).1 here);
       more = λ h. absurd (cc);
     }
@@ -133,25 +134,25 @@ none_until due (lack ∷ lacks) e =
 
 pub record SweptSoFar (start now : Journalled) (swept : Swept) (most place : ℕ) : Type 0 where
   pub within : swept.fired ≤ most
-  pub goes_on : GoesOn start now swept.fired
+  pub goes_on : GoesOn is_prompt start now swept.fired
   pub none : swept.changed ≡ false → (now ≡ start) × (swept.fired ≡ 0) × AllWait start.state place swept.due
   pub more : swept.changed ≡ true → length start.entries < length now.entries
 
 pub swept_first : (start : Journalled) (most : ℕ) → SweptSoFar start start (record { changed = false; fired = 0; due = None }) most 0
 swept_first start most = record {
   within = omega arith;
-  goes_on = goes_on_self start;
+  goes_on = goes_on_self is_prompt start;
   none = λ h. (refl, refl, λ k low. absurd (omega (arith, low)));
   more = λ h. absurd (cc);
 }
 
 -- a poll that changes something
-changes : (start now next : Journalled) (was : Swept) (most place : ℕ) (e : Event) (count : ℕ) → SweptSoFar start now was most place → Steps now e sent.Nothing next → is_own e ≡ true → counts e ≡ count → was.fired + count ≤ most → length now.entries < journal_length → SweptSoFar start next (record was { changed = true; fired = was.fired + count }) most (place + 1)
+changes : (start now next : Journalled) (was : Swept) (most place : ℕ) (e : Event) (count : ℕ) → SweptSoFar start now was most place → Steps now e sent.Nothing next → is_prompt e ≡ true → counts e ≡ count → was.fired + count ≤ most → length now.entries < journal_length → SweptSoFar start next (record was { changed = true; fired = was.fired + count }) most (place + 1)
 changes start now next was most place e count before steps own is low few = record {
   within = low;
-  goes_on = goes_on_step start now next was.fired count before.goes_on (subst (GoesOn now next) is (goes_on_entry now next e sent.Nothing steps own few));
+  goes_on = goes_on_step is_prompt start now next was.fired count before.goes_on (subst (GoesOn is_prompt now next) is (goes_on_entry is_prompt now next e sent.Nothing steps own few));
   none = λ h. absurd (cc);
-  more = λ h. omega (arith, not_shorter start now was.fired before.goes_on, longer_by_entry now next e sent.Nothing steps);
+  more = λ h. omega (arith, not_shorter is_prompt start now was.fired before.goes_on, longer_by_entry now next e sent.Nothing steps);
 }
 
 later_due : (s : NodeState) (place : ℕ) (due : Option ℕ) (lacks : List (Option Need)) → AllWait s place due → AllWait s place (until_from due lacks)
@@ -162,7 +163,7 @@ later_due s place due lacks all k low =
 waits_next : (start now next : Journalled) (was : Swept) (most place : ℕ) (lacks : List (Option Need)) → SweptSoFar start now was most place → (next ≡ now) × Waits now.state (actor_id place) lacks → SweptSoFar start next (record was { due = until_from was.due lacks }) most (place + 1)
 waits_next start now next was most place lacks before done = record {
   within = before.within;
-  goes_on = subst (λ (j : Journalled). GoesOn start j was.fired) (sym done.0) before.goes_on;
+  goes_on = subst (λ (j : Journalled). GoesOn is_prompt start j was.fired) (sym done.0) before.goes_on;
   none = λ h.
       let so_far = before.none h in
       let here : WaitsFor start.state (actor_id place) (until_from was.due lacks) = record {

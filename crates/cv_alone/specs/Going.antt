@@ -31,14 +31,35 @@ is_own (event.Destroy app) = false
 is_own (event.Lose f) = false
 is_own (event.Deliver f) = false
 
-abbrev pub are_own : List Entry → Bool
-are_own entries = list_all (λ (e : Entry). is_own e.event) entries
+-- all of that, but that time goes on
+abbrev pub is_prompt : Event → Bool
+is_prompt (event.Peek a port) = true
+is_prompt (event.Fire a action) = true
+is_prompt (event.Pass conn) = true
+is_prompt (event.Tick now) = false
+is_prompt (event.Meet node attrs) = false
+is_prompt (event.Deploy name net) = false
+is_prompt (event.Send conn) = false
+is_prompt (event.Rewind conn) = false
+is_prompt (event.Freeze a to) = false
+is_prompt (event.Resend a) = false
+is_prompt (event.Withdraw a) = false
+is_prompt (event.Hint a attempt node) = false
+is_prompt (event.Destroy app) = false
+is_prompt (event.Lose f) = false
+is_prompt (event.Deliver f) = false
 
--- a node went on by itself with so many firings
-pub record GoesOn (old new : Journalled) (fired : ℕ) : Type 0 where
+abbrev pub all_may : (Event → Bool) → List Entry → Bool
+all_may may entries = list_all (λ (e : Entry). may e.event) entries
+
+abbrev pub are_own : List Entry → Bool
+are_own entries = all_may is_own entries
+
+-- a node went on by events that may be, with so many firings
+pub record GoesOn (may : Event → Bool) (old new : Journalled) (fired : ℕ) : Type 0 where
   pub more : List Entry
   pub appends : new.entries ≡ old.entries ++ more
-  pub own : are_own more ≡ true
+  pub own : all_may may more ≡ true
   pub firings : firing_count more ≡ fired
   pub based : new.base ≡ old.base
   pub few : length old.entries ≤ journal_length → length new.entries ≤ journal_length

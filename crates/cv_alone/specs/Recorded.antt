@@ -11,7 +11,7 @@ use Rattle.cv_alone.specs.declared.alone.Stop.{Stop}
 use Rattle.cv_alone.specs.declared.alone.Stop.TheVariants.{Spent, Quiescent}
 use Rattle.cv_node.specs.Counts.{firing_count}
 use Rattle.cv_alone.specs.Going.{are_own}
-use Rattle.cv_alone.specs.Resting.{Quiet}
+use Rattle.cv_alone.specs.Resting.{IsPatient, Quiet}
 
 -- node 1: its number, how many actors it takes, how many tokens of a connection may be on their way, and its name
 abbrev pub first_spec : NodeSpec
@@ -32,7 +32,7 @@ EndIsRight net most Quiescent firings state =
     (firings < most) × Quiet state (length net.actors) (length net.connections)
 
 -- a record of node 1 alone: its entries are a local run from the opening state, which begins with the deployment of the
--- network and goes on by the node's own events, and the end of the run is right
+-- network and goes on by the node's own events; time goes on only where nothing else can; and the end of the run is right
 pub record IsOneNodeRun (net : Net) (most : ℕ) (stop : Stop) (m : Record) : Type 0 where
   pub more : List Entry
   pub state : NodeState
@@ -40,4 +40,6 @@ pub record IsOneNodeRun (net : Net) (most : ℕ) (stop : Stop) (m : Record) : Ty
   pub recorded : IsRecordOf (only_first (first_entry net ∷ more)) m.entries
   pub local_run : replay (opening first_spec) (first_entry net ∷ more) ≡ Some state
   pub own : are_own more ≡ true
+  -- time goes on only where nothing else can happen
+  pub patient : IsPatient (length net.actors) (length net.connections) (opening first_spec) (first_entry net ∷ more)
   pub ends : EndIsRight net most stop (firing_count more) state

@@ -1,12 +1,14 @@
 -- When nothing of a network can go on at a node, whatever the moment.
-use Rattle.std.specs.Prelude.{◌≡◌, ℕ, ◌<◌, Bool, true, false, min, List, [], ◌∷◌, Option, Some, None}
+use Rattle.std.specs.Prelude.{◌≡◌, ℕ, ◌<◌, Bool, true, false, min, List, [], ◌∷◌, ◌++◌, Option, Some, None}
 use Rattle.std.specs.List.{list_all}
 use Rattle.cv_token.specs.declared.identifiers.ActorId.{ActorId}
 use Rattle.cv_token.specs.declared.identifiers.AppId.{AppId}
 use Rattle.cv_token.specs.declared.identifiers.ConnId.{ConnId}
+use Rattle.cv_protocol.specs.declared.event.Entry.{Entry}
 use Rattle.cv_protocol.specs.declared.event.Event.TheVariants as event
 use Rattle.cv_protocol.specs.declared.poll.Need.{Need}
 use Rattle.cv_protocol.specs.declared.poll.Need.TheVariants as need
+use Rattle.cv_protocol.specs.Journals.{replay}
 use Rattle.cv_protocol.specs.NodeRow.{row}
 use Rattle.cv_protocol.specs.NodeState.{NodeState}
 use Rattle.cv_node.specs.Polls.{Waits}
@@ -66,3 +68,13 @@ pub record WaitsFor (s : NodeState) (a : ActorId) (due : Option ℕ) : Type 0 wh
 
 abbrev pub AllWait : NodeState → ℕ → Option ℕ → Type 0
 AllWait s actors due = (place : ℕ) → place < actors → WaitsFor s (actor_id place) due
+
+-- at this moment no action of so many actors has all that it needs, and no token can pass over one of so many connections
+pub record IsAtRest (s : NodeState) (actors connections : ℕ) : Type 0 where
+  pub wait : (place : ℕ) → place < actors → (lacks : List (Option Need)) × Waits s (actor_id place) lacks
+  pub none_passes : (place : ℕ) → place < connections → row s (event.Pass (conn_id place)) ≡ None
+
+-- wherever time goes on in these entries, nothing else could happen there
+abbrev pub IsPatient : ℕ → ℕ → NodeState → List Entry → Type 0
+IsPatient actors connections base entries =
+    (before after : List Entry) (stamp now : ℕ) → entries ≡ before ++ record { stamp = stamp; event = event.Tick now } ∷ after → (s : NodeState) × (replay base before ≡ Some s) × IsAtRest s actors connections

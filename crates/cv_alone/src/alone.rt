@@ -1,12 +1,12 @@
 //! A network run on one node, and the record of the run.
 
-ghost use Rattle.std.specs.Prelude.{◌≡◌, ◌<◌, ◌≤◌, ℕ, [], ◌∷◌, length, codes, Ok, IfOk};
+ghost use Rattle.std.specs.Prelude.{◌≡◌, ◌<◌, ◌≤◌, ℕ, [], ◌∷◌, length, codes, Ok, IfOk, OnOk};
 ghost use Rattle.cv_protocol.specs.NodeState.{opening};
 ghost use Rattle.cv_node.specs.Counts.{journal_length};
-ghost use Rattle.cv_alone.specs.Going.{GoesOn};
+ghost use Rattle.cv_alone.specs.Going.{GoesOn, is_own};
 ghost use Rattle.cv_alone.specs.Recorded.{IsOneNodeRun, first_entry, first_spec};
 ghost use Rattle.cv_alone.specs.Resting.{Quiet};
-ghost use Rattle.cv_alone.specs.Turns.{Turns};
+ghost use Rattle.cv_alone.specs.Turns.{StaysPatient, Turns};
 
 use crate::sweep::{pass_all, poll_all, tick};
 use cv_kinds::Network;
@@ -89,9 +89,10 @@ fn go_on(
     most: u32,
 ) -> Result<Stop, OutOfMemory>
     requires few { length node.old.entries ≤ journal_length }
-    ensures spent { result ≡ Ok Stop.Spent → GoesOn node.old node.new most }
-    ensures quiescent { result ≡ Ok Stop.Quiescent → (fired : ℕ) × (fired < most) × GoesOn node.old node.new fired }
+    ensures spent { result ≡ Ok Stop.Spent → GoesOn is_own node.old node.new most }
+    ensures quiescent { result ≡ Ok Stop.Quiescent → (fired : ℕ) × (fired < most) × GoesOn is_own node.old node.new fired }
     ensures quiet { result ≡ Ok Stop.Quiescent → Quiet node.new.state actors connections }
+    ensures patient { OnOk result (StaysPatient actors connections node.old node.new) }
 {
     let mut left = most;
     while left > 0 {

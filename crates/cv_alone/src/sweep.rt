@@ -5,9 +5,9 @@ ghost use Rattle.cv_protocol.specs.declared.event.Event.TheVariants as event;
 ghost use Rattle.cv_protocol.specs.declared.event.Sent.TheVariants as sent;
 ghost use Rattle.cv_protocol.specs.NodeRow.{row};
 ghost use Rattle.cv_node.specs.Counts.{journal_length};
-ghost use Rattle.cv_node.specs.Journalled.{Steps};
+ghost use Rattle.cv_node.specs.Journalled.{IsReplay, Steps};
 ghost use Rattle.cv_node.specs.Polls.{HasPolled};
-ghost use Rattle.cv_alone.specs.Going.{GoesOn, Polls};
+ghost use Rattle.cv_alone.specs.Going.{GoesOn, Polls, is_prompt};
 ghost use Rattle.cv_alone.specs.Resting.{AllWait, actor_id, conn_id, earlier, until_from, until_in};
 
 use cv_actor::Polled;
@@ -31,7 +31,8 @@ pub struct Swept {
 
 /// Tells want of memory where the journal is full.
 fn check_room(node: &Node) -> Result<(), OutOfMemory>
-    ensures { OnOk result (length node.now.entries < journal_length) }
+    ensures few { OnOk result (length node.now.entries < journal_length) }
+    ensures replays { IsReplay node.now.base node.now.state node.now.entries }
 {
     if node.journal().entries.len() >= JOURNAL_LENGTH {
         return Err(AllocError);
@@ -59,7 +60,7 @@ pub(crate) fn pass_all(
     alloc: Global,
     connections: u16,
 ) -> Result<bool, OutOfMemory>
-    ensures ok { IfOk result (λ _. GoesOn node.old node.new 0) }
+    ensures ok { IfOk result (λ _. GoesOn is_prompt node.old node.new 0) }
     ensures none { result ≡ Ok false → (node.new ≡ node.old) × ((place : ℕ) → place < connections → row node.old.state (event.Pass (conn_id place)) ≡ None) }
     ensures more { result ≡ Ok true → length node.old.entries < length node.new.entries }
 {
@@ -133,7 +134,7 @@ pub(crate) fn poll_all(
     most: u32,
 ) -> Result<Swept, OutOfMemory>
     requires { 0 < most }
-    ensures ok { IfOk result (λ swept. (swept.fired ≤ most) × GoesOn node.old node.new swept.fired) }
+    ensures ok { IfOk result (λ swept. (swept.fired ≤ most) × GoesOn is_prompt node.old node.new swept.fired) }
     ensures none { IfOk result (λ swept. swept.changed ≡ false → (node.new ≡ node.old) × (swept.fired ≡ 0) × AllWait node.old.state actors swept.due) }
     ensures more { IfOk result (λ swept. swept.changed ≡ true → length node.old.entries < length node.new.entries) }
 {
@@ -155,6 +156,7 @@ pub(crate) fn poll_all(
 pub(crate) fn tick(node: &mut Node, alloc: Global, moment: u64) -> Result<(), OutOfMemory>
     ensures ticked { OnOk result (Steps node.old (event.Tick moment) sent.Nothing node.new) }
     ensures few { OnOk result (length node.old.entries < journal_length) }
+    ensures replays { IsReplay node.old.base node.old.state node.old.entries }
 {
     check_room(node)?;
     match node.step(alloc, Event::Tick { now: moment }) {
