@@ -1,0 +1,5 @@
+pub mod Opening
+pub mod Ports
+pub mod Raising
+pub mod Recording
+pub mod Spending
