@@ -1,0 +1,4 @@
+pub mod Asked
+pub mod Items
+pub mod Numbers
+pub mod Runs
