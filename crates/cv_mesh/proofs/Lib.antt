@@ -1,0 +1,11 @@
+pub mod Composing
+pub mod Connecting
+pub mod Going
+pub mod Growing
+pub mod Keeping
+pub mod Kept
+pub mod Listing
+pub mod Looked
+pub mod Passing
+pub mod Planning
+pub mod Sending

@@ -1,0 +1,3 @@
+pub mod Parts
+pub mod Settles
+pub mod Silent
