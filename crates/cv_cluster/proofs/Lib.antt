@@ -1,0 +1,7 @@
+pub mod Advancing
+pub mod Honest
+pub mod Lists
+pub mod Moments
+pub mod Nodes
+pub mod Quotas
+pub mod Turns
