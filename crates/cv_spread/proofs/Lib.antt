@@ -1,0 +1,9 @@
+pub mod Counting
+pub mod Firings
+pub mod Homes
+pub mod Journals
+pub mod Ranges
+pub mod Running
+pub mod Starting
+pub mod Staying
+pub mod Steady
