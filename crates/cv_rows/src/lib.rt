@@ -15,7 +15,11 @@ mod compiling;
 #[cfg(test)]
 mod networks;
 #[cfg(test)]
+mod nodes;
+#[cfg(test)]
 mod reading;
+#[cfg(test)]
+mod tracing;
 
 /// The answer of the top call on these words, source and sink.
 pub fn answer<R: Threads + Sync>(
@@ -66,7 +70,7 @@ mod tests {
         text: &'static str,
     }
 
-    const ROWS: [Row; 25] = [
+    const ROWS: [Row; 24] = [
         Row {
             words: &["run"],
             script: CONSTANT,
@@ -186,12 +190,6 @@ mod tests {
             script: "one : std.Constant(data=1, n=3)\nini : flow.Init(data=0)\nadd : math.Add()\nsnk : io.Print()\none.token > add.a\nini.out > add.b\nadd.result > ini.in, snk.token\n",
             status: 0,
             text: "snk 1\nsnk 2\nsnk 3\nfirings 13\nend quiescent\n",
-        },
-        Row {
-            words: &["run", "--nodes", "2"],
-            script: CONSTANT,
-            status: 2,
-            text: "usage\n",
         },
         Row {
             words: &[],

@@ -1,6 +1,7 @@
 -- A record of one node of a wired network keeps owners and streams, and the text is that of its firings.
-use Rattle.std.proofs.Common.{◌≡◌, ℕ, ◌==◌, ◌&&◌, Bool, true, false, is_some, if◌then◌else◌, List, [], ◌∷◌, ◌++◌, Some, None, refl, ap, sym, ◌∙◌, subst, append-nil}
+use Rattle.std.proofs.Common.{◌≡◌, inl, inr, ℕ, ◌==◌, ◌&&◌, Bool, true, false, is_some, if◌then◌else◌, List, [], ◌∷◌, ◌++◌, Some, None, Result, Ok, Err, IfOk, refl, ap, sym, ◌∙◌, subst, append-nil}
 use Rattle.std.proofs.lemmas.Bool.{eqb-true}
+use Rattle.std.specs.declared.alloc.AllocError.{AllocError}
 use Rattle.cv_kinds.specs.declared.network.ActorSpec.{ActorSpec}
 use Rattle.cv_kinds.specs.declared.kind.Kind.TheVariants as kind
 use Rattle.cv_flow.specs.declared.kind.FlowKind.TheVariants as flow
@@ -22,9 +23,10 @@ use Rattle.cv_merge.proofs.Bridge.{sent_before}
 use Rattle.cv_handover.specs.Runs.{IsRun}
 use Rattle.cv_handover.proofs.Alone.{each_opened}
 use Rattle.cv_handover.proofs.Records.{owners_opened}
-use Rattle.cv_solo.specs.OneRuntime.{solo}
+use Rattle.cv_solo.specs.OneRuntime.{Runtime, solo}
+use Rattle.cv_words.specs.Runs.{Run}
 use Rattle.cv_top.specs.Printed.{firings_of, IsTextWhereDefined}
-use Rattle.cv_top.specs.Ran.{IsRightRun, StreamsInOrder, openings}
+use Rattle.cv_top.specs.Ran.{IsRightAlone, IsRightRecord, IsRightRun, StreamsInOrder, openings}
 
 -- 1. The journals of a run are local runs
 
@@ -109,15 +111,28 @@ streams_hold : (net : Net) (most : ℕ) (s : Stop) (m : Record) (run : IsOneNode
 streams_hold net most s m run wired begins rest split somebody =
     each_opened (λ i. record first_spec { no = i }) somebody (only_first (first_entry net ∷ run.more)) m.entries (λ i. refl) (is_run net most s m run) begins rest run_app split wired
 
-pub right_run : (net : Net) (most : ℕ) (s : Stop) (m : Record) (text : List ℕ) → IsWired net → IsOneNodeRun net most s m → IsTextWhereDefined net (firings_of m.entries) s text → IsRightRun net most s m text
-right_run net most s m text wired run printed =
-    let whole = streams_hold net most s m run wired m.entries [] (sym (append-nil m.entries)) nobody in
-    let defined : solo net (firings_of m.entries) ≡ Some whole.runtime = whole.defined in
-    record {
-      run = run;
-      owners = owners_opened (λ i. record first_spec { no = i }) nobody (only_first (first_entry net ∷ run.more)) m.entries (λ i. refl) (is_run net most s m run);
-      streams = streams_hold net most s m run wired;
-      runtime = whole.runtime;
-      defined = defined;
-      printed = printed whole.runtime defined;
-    }
+pub right_alone : (net : Net) (most : ℕ) (s : Stop) (m : Record) → IsWired net → IsOneNodeRun net most s m → IsRightAlone net most s m
+right_alone net most s m wired run = record {
+  run = run;
+  owners = owners_opened (λ i. record first_spec { no = i }) nobody (only_first (first_entry net ∷ run.more)) m.entries (λ i. refl) (is_run net most s m run);
+  streams = streams_hold net most s m run wired;
+}
+
+-- a run of one node is one of the words that ask for one node
+pub alone_right : (run : Run) (net : Net) (most : ℕ) (x : Result (Stop × Record) AllocError) → run.nodes ≡ 1 → most ≡ run.firings → IsWired net
+    → IfOk x (λ r. IsOneNodeRun net most r.0 r.1) → IfOk x (λ r. IsRightRecord run net r.0 r.1)
+alone_right run net most (Ok r) one same wired is =
+    inl (one, right_alone net run.firings r.0 r.1 wired (subst (λ (k : ℕ). IsOneNodeRun net k r.0 r.1) same is))
+alone_right run net most (Err x) one same wired is = tt
+
+-- 4. The text is that of the recorded firings
+
+-- the one runtime allows the recorded firings
+solo_defined : (run : Run) (net : Net) (s : Stop) (m : Record) → IsRightRecord run net s m → (r : Runtime) × (solo net (firings_of m.entries) ≡ Some r)
+solo_defined run net s m (inl (one, right)) = let whole = right.streams m.entries [] (sym (append-nil m.entries)) nobody in (whole.runtime, whole.defined)
+solo_defined run net s m (inr (more, right)) = let whole = right.streams m.entries [] (sym (append-nil m.entries)) nobody in (whole.runtime, whole.defined)
+
+pub right_run : (run : Run) (net : Net) (s : Stop) (m : Record) (text : List ℕ) → IsRightRecord run net s m → IsTextWhereDefined net (firings_of m.entries) s text → IsRightRun run net s m text
+right_run run net s m text right printed =
+    let whole = solo_defined run net s m right in
+    record { right = right; runtime = whole.0; defined = whole.1; printed = printed whole.0 whole.1 }

@@ -7,13 +7,13 @@ use Rattle.cv_top.specs.declared.end.End.{End}
 use Rattle.cv_top.specs.declared.end.End.TheVariants as end
 use Rattle.cv_top.specs.declared.end.Refusal.{Refusal}
 use Rattle.cv_top.specs.declared.end.Refusal.TheVariants as refusal
-use Rattle.cv_top.specs.declared.words.Command.TheVariants.{Script, Gen}
-use Rattle.cv_top.specs.declared.words.Task.{Task}
 use Rattle.cv_top.specs.Causes.{GaveRefused, IsCause, end_of, line_of, script_limit}
 use Rattle.cv_top.specs.Devices.{Reading, Writing, Gave, GaveAtMost, GaveOneMore, IsSteady, IsUnread, TookAll, TookFront}
 use Rattle.cv_top.specs.Generated.{generated_script}
 use Rattle.cv_top.specs.Ran.{IsDoneFor, IsEmptyRecord}
-use Rattle.cv_top.specs.Words.{command_of}
+use Rattle.cv_words.specs.Asked.{command_of}
+use Rattle.cv_words.specs.declared.words.Command.TheVariants.{Script, Gen}
+use Rattle.cv_words.specs.declared.words.Task.{Task}
 
 -- the status with which the program ends
 abbrev pub status_of : End → ℕ
@@ -25,6 +25,7 @@ status_of (end.Script line col code) = 3
 status_of end.ReadFault = 4
 status_of end.WriteFault = 5
 status_of end.OutOfMemory = 6
+status_of (end.Plan item) = 7
 status_of end.TooLong = 8
 
 -- the script of `gen`, for which nothing was read
@@ -83,7 +84,8 @@ IsTaskDecided t r (Ok answer) = (bytes : List ℕ) × Gave r bytes × IsDoneFor 
 IsTaskDecided t r (Err refusal.ReadFault) = GaveAtMost script_limit r × Rose r.before r.now
 IsTaskDecided t r (Err refusal.TooLong) = GaveOneMore script_limit r × IsSteady r
 IsTaskDecided t r (Err refusal.OutOfMemory) = GaveAtMost script_limit r × IsSteady r
-IsTaskDecided t r (Err (refusal.Script line col c)) = GaveRefused r (refusal.Script line col c)
+IsTaskDecided t r (Err (refusal.Script line col c)) = GaveRefused t r (refusal.Script line col c)
+IsTaskDecided t r (Err (refusal.Plan stray)) = GaveRefused t r (refusal.Plan stray)
 IsTaskDecided t r (Err refusal.Usage) = ⊥
 
 -- the same of the script of so many chains

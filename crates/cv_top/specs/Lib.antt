@@ -4,4 +4,3 @@ pub mod Devices
 pub mod Generated
 pub mod Printed
 pub mod Ran
-pub mod Words

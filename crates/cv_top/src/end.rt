@@ -8,6 +8,7 @@ ghost use Rattle.cv_top.specs.Ran.{end_at, IsEmptyRecord};
 use cv_alone::Stop;
 use cv_deploy::Code;
 use cv_protocol::{NodeSpecs, Record, Steps};
+use cv_words::Stray;
 use std::alloc::Global;
 
 /// How a call ends.
@@ -23,6 +24,8 @@ pub enum End {
     Usage,
     /// The script has no meaning; its first fault, with line and column from 1, columns counting bytes.
     Script { line: u32, col: u32, code: Code },
+    /// The script has a meaning, and an item of the words names a node that does not run; the place of the first such among all items, from 0.
+    Plan { item: u32 },
     /// The source failed.
     ReadFault,
     /// The sink failed; a part of the text, from its front, is on it.
@@ -40,6 +43,8 @@ pub enum Refusal {
     Usage,
     /// The script has no meaning.
     Script { line: u32, col: u32, code: Code },
+    /// An item of the words names a node that does not run.
+    Plan { stray: Stray },
     /// The source failed.
     ReadFault,
     /// Memory ran out.
@@ -56,6 +61,7 @@ impl Refusal {
         match self {
             Refusal::Usage => End::Usage,
             Refusal::Script { line, col, code } => End::Script { line, col, code },
+            Refusal::Plan { stray } => End::Plan { item: stray.place },
             Refusal::ReadFault => End::ReadFault,
             Refusal::OutOfMemory => End::OutOfMemory,
             Refusal::TooLong => End::TooLong,
@@ -142,6 +148,7 @@ impl End {
             End::ReadFault => 4,
             End::WriteFault => 5,
             End::OutOfMemory => 6,
+            End::Plan { item: _ } => 7,
             End::TooLong => 8,
         }
     }

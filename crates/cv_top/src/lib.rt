@@ -3,10 +3,11 @@
 
 mod end;
 mod generating;
+mod nodes;
 mod running;
 mod told;
 mod top;
-mod words;
+mod tracing;
 
 pub use end::{Cut, End, Outcome};
 pub use top::calvin;

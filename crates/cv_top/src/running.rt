@@ -1,6 +1,6 @@
-//! What is done with the network of a script: a run on one node or in rounds, or its text.
+//! What is done with the network of a script: a run on nodes or in rounds, its journals, or the network's text.
 
-ghost use Rattle.std.specs.Prelude.{◌≡◌, ◌≤◌, ◌^◌, ℕ, List, ◌++◌, length, Some, string_bytes, IfOk, IfErr, OnOk};
+ghost use Rattle.std.specs.Prelude.{◌≡◌, ◌≤◌, ◌^◌, ℕ, List, ◌++◌, length, Some, None, string_bytes, IfOk, IfErr, OnOk};
 ghost use Rattle.cv_deploy.specs.declared.fault.Fault.{Fault};
 ghost use Rattle.cv_deploy.specs.Faults.{HasFault, Means};
 ghost use Rattle.cv_kinds.specs.Net.{Net};
@@ -11,45 +11,85 @@ ghost use Rattle.cv_solo.specs.OneRuntime.{Runtime, opening, solo, solo_from};
 ghost use Rattle.cv_solo.specs.PlainNetwork.{IsPlainRun};
 ghost use Rattle.cv_token.specs.Spelling.{spelling};
 ghost use Rattle.cv_top.specs.declared.end.End.TheVariants as end;
-ghost use Rattle.cv_top.specs.Causes.{IsRefusalOf, DoneOrFailed, FaultOrFailed, UnlessRefused, RefusedBy, refusal_of, with_feed};
+ghost use Rattle.cv_top.specs.Causes.{IsPlanned, IsRefusalOf, DoneOrFailed, FaultOrFailed, PlanOrFailed, UnlessRefused, RefusedBy, refusal_of, with_feed};
+ghost use Rattle.cv_words.specs.Asked.{stray_of};
+ghost use Rattle.cv_words.specs.Items.{stray_in};
+ghost use Rattle.cv_words.specs.declared.items.Stray.{Stray};
 ghost use Rattle.cv_top.specs.Printed.{firing_of, firings_of, last_lines, end_word, IsTextWhereDefined};
 ghost use Rattle.cv_top.specs.Ran.{IsDoneFor, IsEmptyRecord, IsRight, IsRightRun, IsRightRounds, RoundsEnd, end_at};
 
 use crate::end::{Answer, End, Refusal, empty_record};
-use crate::words::Task;
-use cv_alone::{Stop, run_alone};
+use crate::nodes::run_on_nodes;
+use crate::tracing::trace;
+use cv_alone::Stop;
 use cv_deploy::{NoNetwork, compile};
+use cv_io::Gate;
 use cv_kinds::Network;
 use cv_network::network_text;
 use cv_protocol::{Event, Step};
 use cv_solo::{Solo, SoloFault};
 use cv_token::{AppId, OutOfMemory};
+use cv_words::{RunWords, Task};
 use std::alloc::{AllocError, Global};
+use std::thread::Threads;
 
 /// The application of a run.
 const RUN: AppId = AppId { node: 1, seq: 1 };
 
 /// Does what the task asks with the network that the bytes of a script mean.
-pub fn do_task(alloc: Global, bytes: &[u8], task: Task) -> Result<Answer, Refusal>
+pub fn do_task<R: Threads + Sync, G: Gate>(
+    rt: &R,
+    alloc: Global,
+    bytes: &[u8],
+    task: Task,
+    gate: &G,
+) -> Result<Answer, Refusal>
     requires { length bytes.now ≤ 2 ^ 31 }
     ensures done { IfOk result (λ answer. IsDoneFor task bytes.now answer.end answer.merged (string_bytes answer.text)) }
-    ensures cause { IfErr result (IsRefusalOf bytes.now) }
-    ensures complete { (net : Net) → Means bytes.now net → UnlessRefused result DoneOrFailed }
+    ensures cause { IfErr result (IsRefusalOf task bytes.now) }
+    ensures complete { (net : Net) → Means bytes.now net → stray_of task ≡ None → UnlessRefused result DoneOrFailed }
+    ensures planned { (net : Net) (stray : Stray) → Means bytes.now net → stray_of task ≡ Some stray → RefusedBy result (PlanOrFailed stray) }
     ensures faulty { (fault : Fault) → HasFault bytes.now fault → RefusedBy result (FaultOrFailed fault) }
 {
     match compile(alloc, bytes) {
-        Ok(net) => do_with(alloc, net, task).map_err(|_| Refusal::OutOfMemory),
+        Ok(net) => do_planned(rt, alloc, net, task, gate),
         Err(none) => Err(refusal_of(none)),
     }
 }
 
-/// Does what the task asks with a network.
-fn do_with(alloc: Global, net: Network, task: Task) -> Result<Answer, OutOfMemory>
+/// Does what the task asks with a network, where each of its items names nodes that run.
+fn do_planned<R: Threads + Sync, G: Gate>(
+    rt: &R,
+    alloc: Global,
+    net: Network,
+    task: Task,
+    gate: &G,
+) -> Result<Answer, Refusal>
     requires { IsWired net }
+    ensures done { IfOk result (λ answer. (stray_of task ≡ None) × IsRight task net answer.end answer.merged (string_bytes answer.text)) }
+    ensures refused { IfErr result (IsPlanned task) }
+{
+    if let Some(stray) = task.stray() {
+        return Err(Refusal::Plan { stray });
+    }
+    do_with(rt, alloc, net, task, gate).map_err(|_| Refusal::OutOfMemory)
+}
+
+/// Does what the task asks with a network.
+fn do_with<R: Threads + Sync, G: Gate>(
+    rt: &R,
+    alloc: Global,
+    net: Network,
+    task: Task,
+    gate: &G,
+) -> Result<Answer, OutOfMemory>
+    requires wired { IsWired net }
+    requires fits { stray_of task ≡ None }
     ensures { IfOk result (λ answer. IsRight task net answer.end answer.merged (string_bytes answer.text)) }
 {
     match task {
-        Task::Run { firings } => run_on_node(alloc, net, firings),
+        Task::Run(words) => run(rt, alloc, net, &words, gate),
+        Task::Trace(words) => trace(rt, alloc, net, &words, gate),
         Task::Solo { firings } => run_in_rounds(alloc, &net, firings),
         Task::Compile => shown(alloc, &net),
     }
@@ -116,12 +156,19 @@ fn make_rounds(alloc: Global, solo: &mut Solo, most: u32) -> Result<(Stop, u32),
     Ok((Stop::Spent, fired))
 }
 
-/// Runs a network on one node, with so many firings at most.
-fn run_on_node(alloc: Global, net: Network, most: u32) -> Result<Answer, OutOfMemory>
-    requires { IsWired net }
-    ensures { IfOk result (λ answer. (stop : Stop) × (answer.end ≡ end_at stop) × IsRightRun net most stop answer.merged (string_bytes answer.text)) }
+/// Runs a network as the words ask; the text is that of its streams.
+fn run<R: Threads + Sync, G: Gate>(
+    rt: &R,
+    alloc: Global,
+    net: Network,
+    words: &RunWords,
+    gate: &G,
+) -> Result<Answer, OutOfMemory>
+    requires wired { IsWired net }
+    requires fits { stray_in words.now.nodes words.now.items ≡ None }
+    ensures { IfOk result (λ answer. (stop : Stop) × (answer.end ≡ end_at stop) × IsRightRun words.now net stop answer.merged (string_bytes answer.text)) }
 {
-    let (stop, merged) = run_alone(alloc, net.copy(alloc)?, most)?;
+    let (stop, merged) = run_on_nodes(rt, alloc, net.copy(alloc)?, words, gate)?;
     let text = printed(alloc, &net, merged.entries.as_slice(), stop)?;
     Ok(Answer {
         end: End::at(stop),

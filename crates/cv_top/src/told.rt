@@ -2,7 +2,7 @@
 
 ghost use Rattle.std.specs.Prelude.{◌≡◌, ◌⊎◌, ℕ, List, IfOk, string_bytes, vec_len};
 ghost use Rattle.cv_top.specs.Answers.{status_of, IsTold, IsAnswered};
-ghost use Rattle.cv_top.specs.Causes.{IsCause, EndsAs, end_of, line_of, script_line};
+ghost use Rattle.cv_top.specs.Causes.{IsCause, EndsAs, end_of, line_of, plan_line, script_line};
 ghost use Rattle.cv_top.specs.Devices.{Reading};
 
 use crate::end::{End, Outcome, Refusal, empty_record};
@@ -10,6 +10,7 @@ use cv_deploy::Code;
 use cv_io::{Sink, write_all};
 use cv_protocol::Record;
 use cv_token::OutOfMemory;
+use cv_words::LinkItem;
 use std::alloc::Global;
 
 /// Writes the text of an answer; the outcome has the answer's end and record, or those of the sink's failure.
@@ -40,6 +41,10 @@ pub fn tell_refusal<K: Sink>(alloc: Global, sink: &mut K, refusal: Refusal) -> O
             Ok(text) => tell_line(alloc, sink, refusal, text.as_str()),
             Err(_) => tell_line(alloc, sink, Refusal::OutOfMemory, "memory\n"),
         },
+        Refusal::Plan { stray } => match plan_line(alloc, stray.item) {
+            Ok(text) => tell_line(alloc, sink, refusal, text.as_str()),
+            Err(_) => tell_line(alloc, sink, Refusal::OutOfMemory, "memory\n"),
+        },
     }
 }
 
@@ -67,6 +72,17 @@ fn script_line(alloc: Global, line: u32, col: u32, code: Code) -> Result<String,
     text.push_str(place.as_str())?;
     text.push_str(" ")?;
     text.push_str(code.word())?;
+    text.push_str("\n")?;
+    Ok(text)
+}
+
+/// The line of an item that names a node that does not run.
+fn plan_line(alloc: Global, item: LinkItem) -> Result<String, OutOfMemory>
+    ensures { IfOk result (λ text. string_bytes text ≡ plan_line item) }
+{
+    let word = item.text(alloc)?;
+    let mut text = String::from_str(alloc, "plan ")?;
+    text.push_str(word.as_str())?;
     text.push_str("\n")?;
     Ok(text)
 }
