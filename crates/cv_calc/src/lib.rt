@@ -5,8 +5,6 @@ mod json;
 pub mod kind;
 pub mod laws;
 mod math;
-#[cfg(test)]
-mod tests;
 mod texts;
 
 pub use kind::CalcKind;

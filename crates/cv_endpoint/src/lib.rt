@@ -6,6 +6,3 @@ pub mod law;
 
 pub use ends::{Answer, local_move, next_to_send, on_ack, on_nack, on_token};
 pub use law::{acknowledged_is_received, held_until_done, received_in_order};
-
-#[cfg(test)]
-mod tests;

@@ -8,7 +8,5 @@ pub mod laws;
 mod listing;
 mod passing;
 mod routing;
-#[cfg(test)]
-mod tests;
 
 pub use kind::FlowKind;

@@ -18,6 +18,3 @@ pub use lexing::{before_a_space, lex, one_spelling};
 pub use name_text::NameText;
 pub use word::{Mark, Placed, Reserved, Word};
 pub use wording::words;
-
-#[cfg(test)]
-mod tests;

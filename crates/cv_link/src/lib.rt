@@ -11,6 +11,3 @@ pub use items::{Item, LinkItems};
 pub use law::{ends_stay_ends, frames_are_judged_as_planned};
 pub use plan::{Plan, Taken};
 pub use ring::{Pair, Rx, Tx};
-
-#[cfg(test)]
-mod tests;

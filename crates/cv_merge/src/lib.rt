@@ -5,8 +5,6 @@ mod choosing;
 pub mod law;
 mod merging;
 mod source;
-#[cfg(test)]
-mod tests;
 
 pub use law::{record_is_sorted, sent_before};
 pub use merging::merge;

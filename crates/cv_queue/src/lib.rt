@@ -9,6 +9,3 @@ mod slots;
 pub use in_port::{InPort, Offered};
 pub use out_port::OutPort;
 pub use reader::{MOST_READERS, Reader, Readers, Subscription};
-
-#[cfg(test)]
-mod tests;

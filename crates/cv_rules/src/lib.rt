@@ -8,6 +8,3 @@ pub mod rule;
 pub use attrs::{Attrs, NodeSpec, is_key};
 pub use meeting::meets;
 pub use rule::{Fields, Rule};
-
-#[cfg(test)]
-mod tests;

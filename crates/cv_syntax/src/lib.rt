@@ -22,8 +22,3 @@ pub use tree::{
     Aim, Apply, Arg, Component, Declare, Define, Factor, Item, Join, KindName, Literal, Literals,
     Match, NamedRule, Pairs, Script, Source, Statement, Target, Term, Terms, Value,
 };
-
-#[cfg(test)]
-mod print_tests;
-#[cfg(test)]
-mod tests;

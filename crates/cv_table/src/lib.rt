@@ -12,6 +12,3 @@ pub use actors::{ActorTable, Change};
 pub use apps::AppTable;
 pub use conns::ConnTable;
 pub use nodes::NodeTable;
-
-#[cfg(test)]
-mod tests;

@@ -11,8 +11,6 @@ pub mod naming;
 pub mod pairs;
 pub mod reading;
 mod room;
-#[cfg(test)]
-mod tests;
 pub mod token;
 pub mod utf8;
 mod values;
