@@ -1,17 +1,18 @@
 //! `Node`: a state with the journal that led to it.
 
-ghost use Rattle.std.specs.Prelude.{◌≡◌, ◌<◌, ◌≤◌, true, [], ◌∷◌, ◌++◌, length, slice_get, vec_len, vec_capacity, is_none, unwrap_or, IfOk, IfErr, OnOk, OnErr};
+ghost use Rattle.std.specs.Prelude.{◌≡◌, ℕ, ◌+◌, ◌-◌, ◌<◌, ◌≤◌, true, [], ◌∷◌, ◌++◌, length, slice_get, vec_len, vec_capacity, is_none, unwrap_or, IsOk, IfOk, IfErr, OnOk, OnErr};
 ghost use Rattle.std.specs.List.{list_all};
 ghost use Rattle.std.specs.Option.{option_copied, option_map};
 ghost use Rattle.std.specs.FinMap as map;
 ghost use Rattle.cv_protocol.specs.declared.refusal.StepRefusal.TheVariants as refusal;
 ghost use Rattle.cv_protocol.specs.NodeState.{opening};
-ghost use Rattle.cv_protocol.specs.NodeRow.{cause_of};
+ghost use Rattle.cv_protocol.specs.NodeRow.{cause_of, row};
 ghost use Rattle.cv_protocol.specs.Rows.{is_node};
 ghost use Rattle.cv_state.specs.Leaving.{frozen_place};
 ghost use Rattle.cv_state.specs.Opening.{opened};
-ghost use Rattle.cv_state.specs.Steps.{Refuses};
+ghost use Rattle.cv_state.specs.Steps.{LeadsTo, Refuses};
 ghost use Rattle.cv_state.specs.Waking.{IsNextDue};
+ghost use Rattle.cv_node.specs.Counts.{journal_length};
 ghost use Rattle.cv_node.specs.Journalled.{IsReplay, Steps};
 ghost use Rattle.cv_node.specs.Polls.{HasPolled, poll_cause};
 ghost use Rattle.cv_node.specs.Seeing.{seen_actor};
@@ -24,24 +25,27 @@ use cv_rules::NodeSpec;
 use cv_state::State;
 use cv_token::{ActorId, AppId, OutOfMemory};
 use http_server::Log;
-use std::alloc::Global;
+use std::alloc::{AllocError, Global};
 use std::marker::Model;
 
 /// How many entries a journal holds at most; a growth past that is want of memory.
 pub const JOURNAL_LENGTH: usize = 1 << 30;
 
-/// A node. Contracts see the state that it began with, its state and its entries; the state is what the entries leave of the
-/// first one.
+/// A node. Contracts see the state that it began with, its state, its entries, and for how many more it has room; the state is what
+/// the entries leave of the first one.
 #[derive(Drop)]
 pub struct Node {
     state: State,
     journal: Journal,
+    /// How many entries more the journal has room for, made ahead.
+    spare: u32,
     /// The state that the node began with, for proofs alone: it takes no memory. Where none is noted, it is a node that knows itself alone.
     noted: Log<State, u8>,
 }
 
 impl Model for Node {
-    ghost use Rattle.cv_node.specs.Journalled.{Journalled, journalled_code, base_of, IsJournal};
+    ghost use Rattle.std.specs.Prelude.{vec_len, vec_capacity};
+    ghost use Rattle.cv_node.specs.Journalled.{Journalled, journalled_code, base_of, HasSpare, IsJournal};
 
     ghost Value = { Journalled };
 
@@ -51,9 +55,10 @@ impl Model for Node {
       base = base_of n.journal.spec n.noted.items;
       state = n.state;
       entries = n.journal.entries.items;
+      spare = n.spare;
     } };
 
-    ghost invariant = { λ n. IsJournal (base_of n.journal.spec n.noted.items) n.journal.spec n.state n.journal.entries.items };
+    ghost invariant = { λ n. IsJournal (base_of n.journal.spec n.noted.items) n.journal.spec n.state n.journal.entries.items × HasSpare n.spare (vec_len n.journal.entries) (vec_capacity n.journal.entries) };
 }
 
 impl Node {
@@ -61,7 +66,7 @@ impl Node {
     pub fn new(alloc: Global, spec: NodeSpec) -> Result<Node, OutOfMemory>
         requires number { (1 ≤ spec.no) × (spec.no ≤ 64) }
         requires window { (1 ≤ spec.window) × (spec.window ≤ 64) }
-        ensures { IfOk result (λ node. node ≡ record { base = opening spec; state = opening spec; entries = [] }) }
+        ensures { IfOk result (λ node. node ≡ record { base = opening spec; state = opening spec; entries = []; spare = 0 }) }
     {
         let state = State::new(alloc, spec.copy(alloc)?)?;
         let journal = Journal {
@@ -72,6 +77,7 @@ impl Node {
         Ok(Node {
             state,
             journal,
+            spare: 0,
             noted: Log::new(),
         })
     }
@@ -90,7 +96,7 @@ impl Node {
         requires app { (app.seq ≡ 1) × (1 ≤ app.node) × (app.node ≤ 64) }
         requires places { length at.now ≡ length net.now.actors }
         requires nodes { list_all is_node at.now ≡ true }
-        ensures { IfOk result (λ node. node ≡ record { base = opened spec app net.now at.now; state = opened spec app net.now at.now; entries = [] }) }
+        ensures { IfOk result (λ node. node ≡ record { base = opened spec app net.now at.now; state = opened spec app net.now at.now; entries = []; spare = 0 }) }
     {
         let state = State::open(alloc, spec.copy(alloc)?, app, net, at)?;
         let noted = Log::new().and(&state, &0);
@@ -102,29 +108,50 @@ impl Node {
         Ok(Node {
             state,
             journal,
+            spare: 0,
             noted,
         })
     }
 
     /// Does one row and appends its entry; tells the frames that it sends. A refused event changes nothing, and is answered with its
-    /// cause; want of memory is told only where it has none.
+    /// cause; want of memory is told only where it has none, and of a Tick only where no room was made ahead.
     pub fn step(&mut self, alloc: Global, event: Event) -> Result<Sent, StepRefusal>
         ensures done { IfOk result (λ sent. Steps self.old event sent self.new) }
         ensures cause { IfErr result (Refuses (cause_of self.old.state event)) }
         ensures told { IfErr result (λ e. e ≡ unwrap_or (cause_of self.old.state event) refusal.OutOfMemory) }
+        ensures ready { (moment : ℕ) → event ≡ Event.Tick moment → 0 < self.old.spare → IfErr result (λ e. cause_of self.old.state event ≡ Some e) }
         ensures err { OnErr result (self.new ≡ self.old) }
     {
-        if make_room(&mut self.journal.entries).is_err() {
+        if make_room(&mut self.journal.entries, 1).is_err() {
             return Err(self.wanting(&event));
         }
-        match self.state.apply(alloc, &event) {
+        match apply(&mut self.state, alloc, &event) {
             Ok(sent) => {
                 append(&mut self.journal.entries, self.state.stamp(), event);
+                self.spare = self.spare.saturating_sub(1);
                 Ok(sent)
             }
             Err(StepRefusal::OutOfMemory) => Err(self.wanting(&event)),
             Err(cause) => Err(cause),
         }
+    }
+
+    /// Makes room for so many entries, each of which uses one of it. While there is some, a Tick takes no memory.
+    pub fn reserve(&mut self, n: u32) -> Result<(), OutOfMemory>
+        ensures ok { OnOk result (n ≤ self.new.spare) }
+        ensures kept { self.new ≡ record self.old { spare = self.new.spare } }
+        ensures more { self.old.spare ≤ self.new.spare }
+        ensures err { OnErr result (self.new ≡ self.old) }
+        ensures had { n ≤ self.old.spare → IsOk result }
+    {
+        let more = n as usize;
+        let left = JOURNAL_LENGTH.saturating_sub(self.journal.entries.len());
+        if more > left {
+            return Err(AllocError);
+        }
+        make_room(&mut self.journal.entries, more)?;
+        self.spare = self.spare.max(n);
+        Ok(())
     }
 
     /// How an event is refused for which memory was wanting: with its cause, where it has one.
@@ -228,11 +255,19 @@ impl Node {
         self.state.next_due()
     }
 
+    /// For how many entries more there is room, made ahead.
+    pub fn spare(&self) -> u32
+        ensures { result ≡ self.now.spare }
+    {
+        self.spare
+    }
+
     /// The entries so far, with what the node is from the start.
     pub fn journal(&self) -> &Journal
         ensures entries { result.now.entries.items ≡ self.now.entries }
         ensures spec { result.now.spec ≡ self.now.base.spec }
         ensures replays { IsReplay self.now.base self.now.state self.now.entries }
+        ensures room { self.now.spare ≤ journal_length - length self.now.entries }
     {
         &self.journal
     }
@@ -247,18 +282,39 @@ impl Node {
     }
 }
 
-/// Makes room for one entry more.
-fn make_room(entries: &mut Vec<Entry>) -> Result<(), OutOfMemory>
+/// Makes room for so many entries more.
+fn make_room(entries: &mut Vec<Entry>, more: usize) -> Result<(), OutOfMemory>
     ensures items { entries.new.items ≡ entries.old.items }
-    ensures ok { OnOk result (vec_len entries.new < vec_capacity entries.new) }
+    ensures len { vec_len entries.new ≡ vec_len entries.old }
+    ensures capacity { vec_capacity entries.old ≤ vec_capacity entries.new }
+    ensures ok { OnOk result (vec_len entries.new + more ≤ vec_capacity entries.new) }
+    ensures had { vec_len entries.old + more ≤ vec_capacity entries.old → IsOk result }
 {
-    entries.reserve(1)
+    entries.reserve(more)
 }
 
 /// Appends an entry into the room that was made.
 fn append(entries: &mut Vec<Entry>, stamp: u64, event: Event)
     requires room { vec_len entries.old < vec_capacity entries.old }
-    ensures { entries.new.items ≡ entries.old.items ++ record { stamp = stamp; event = event } ∷ [] }
+    ensures items { entries.new.items ≡ entries.old.items ++ record { stamp = stamp; event = event } ∷ [] }
+    ensures len { vec_len entries.new ≡ vec_len entries.old + 1 }
+    ensures capacity { vec_capacity entries.new ≡ vec_capacity entries.old }
 {
     entries.push_reserved(Entry { stamp, event });
+}
+
+/// Does the row of the event, a Tick without memory.
+fn apply(state: &mut State, alloc: Global, event: &Event) -> Result<Sent, StepRefusal>
+    ensures done { IfOk result (λ sent. LeadsTo (row state.old event.now) state.new sent) }
+    ensures cause { IfErr result (Refuses (cause_of state.old event.now)) }
+    ensures tick { (moment : ℕ) → event.now ≡ Event.Tick moment → IfErr result (λ e. cause_of state.old event.now ≡ Some e) }
+    ensures err { OnErr result (state.new ≡ state.old) }
+{
+    match event {
+        Event::Tick { now } => {
+            state.tick(*now)?;
+            Ok(Sent::Nothing)
+        }
+        _ => state.apply(alloc, event),
+    }
 }

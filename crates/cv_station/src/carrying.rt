@@ -19,9 +19,24 @@ impl Station {
         Some(out.readers())
     }
 
-    /// The reader at that place of a live actor's outport.
-    fn reader_at(&self, actor: ActorId, port: u8, place: u16) -> Option<Reader> {
-        self.node.live(actor)?.out(port)?.reader(place)
+    /// How many of its tokens a reader needs no more: those that a consumer which lives here has acknowledged, or those that were sent.
+    fn served(&self, reader: &Reader) -> u64 {
+        if self.node.live(reader.consumer).is_some() {
+            reader.acked
+        } else {
+            reader.sent
+        }
+    }
+
+    /// The reader at that place of a live actor's outport, where the port has a token to carry to it.
+    fn unserved_at(&self, actor: ActorId, port: u8, place: u16) -> Option<Reader> {
+        let out = self.node.live(actor)?.out(port)?;
+        let reader = out.reader(place)?;
+        if self.served(&reader) < out.count(place) {
+            Some(reader)
+        } else {
+            None
+        }
     }
 
     /// Sends tokens of the connection until none can be sent.
@@ -63,7 +78,7 @@ impl Station {
         ensures { Goes most self.old (is_err result) self.new }
     {
         for place in 0..readers {
-            if let Some(reader) = self.reader_at(actor, port, place) {
+            if let Some(reader) = self.unserved_at(actor, port, place) {
                 self.carry(alloc, reader, most)?;
             }
         }

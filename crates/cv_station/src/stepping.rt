@@ -1,6 +1,7 @@
 //! One step of the node, with what it sends pushed.
 
-ghost use Rattle.std.specs.Prelude.{◌≡◌, ◌+◌, ◌≤◌, length, false, true, is_err, OnOk, OnErr};
+ghost use Rattle.std.specs.Prelude.{◌≡◌, ℕ, ◌+◌, ◌<◌, ◌≤◌, length, false, true, is_err, Some, IfErr, OnOk, OnErr};
+ghost use Rattle.cv_protocol.specs.NodeRow.{cause_of};
 ghost use Rattle.cv_node.specs.Counts.{is_firing};
 ghost use Rattle.cv_station.specs.Acts.{is_work};
 ghost use Rattle.cv_station.specs.Going.{Gets, Goes, Received, Stepped};
@@ -21,9 +22,11 @@ impl Station {
         self.node.journal().entries.len()
     }
 
-    /// Does the event, and pushes the frames that it sends. A refused event changes nothing.
+    /// Does the event, and pushes the frames that it sends. A refused event changes nothing; while the node has room made ahead, a Tick
+    /// is refused only with its cause.
     pub fn step(&mut self, alloc: Global, event: Event) -> Result<(), StepRefusal>
         ensures done { OnOk result (Stepped self.old event self.new) }
+        ensures ready { (moment : ℕ) → event ≡ Event.Tick moment → 0 < self.old.node.spare → IfErr result (λ e. cause_of self.old.node.state event ≡ Some e) }
         ensures err { OnErr result (self.new ≡ self.old) }
     {
         let own = self.node.journal().spec.no;
