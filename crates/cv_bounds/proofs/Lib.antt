@@ -1,5 +1,8 @@
 pub mod Opening
+pub mod Pausing
 pub mod Ports
 pub mod Raising
 pub mod Recording
+pub mod Runs
 pub mod Spending
+pub mod Waiting

@@ -89,7 +89,7 @@ last_of x (y ∷ xs) =
 
 -- 2. Numbers of frames
 
-body_weaken : (n m : ℕ) (b : Body) → n ≤ m → BodyIsFew n b → BodyIsFew m b
+pub body_weaken : (n m : ℕ) (b : Body) → n ≤ m → BodyIsFew n b → BodyIsFew m b
 body_weaken n m (body.Token conn a number t) low h = tt
 body_weaken n m (body.Ack conn a upto) low h = tt
 body_weaken n m (body.Nack conn a upto) low h = tt
@@ -100,11 +100,11 @@ body_weaken n m (body.Cancel a attempt) low h = h
 body_weaken n m (body.Destroy app) low h = h
 
 -- the frame that an event gets is few, and so is its stamp
-abbrev GotLow : ℕ → Option Frame → Type 0
+abbrev pub GotLow : ℕ → Option Frame → Type 0
 GotLow n None = Unit {0}
 GotLow n (Some f) = f.stamp ≤ n
 
-stamp_low : (n : ℕ) (s : NodeState) (e : Event) → s.stamp ≤ n → GotLow n (got_frame e) → stamp_of s e ≤ suc n
+pub stamp_low : (n : ℕ) (s : NodeState) (e : Event) → s.stamp ≤ n → GotLow n (got_frame e) → stamp_of s e ≤ suc n
 stamp_low n s (event.Lose f) low got = omega (arith, low, got)
 stamp_low n s (event.Deliver f) low got = omega (arith, low, got)
 stamp_low n s (event.Meet node attrs) low got = omega (arith, low)
@@ -214,6 +214,19 @@ module _ (openings : ℕ → NodeState) (m : List Step) (sent : FramesWereSent o
     steps = λ before after step d is low does. absurd (omega (arith, low));
   }
   all_sound (suc k) = next_sound k (all_sound k)
+
+  -- what a step got is few
+  pub got_stays_few : (before after : List Step) (step : Step) → m ≡ before ++ step ∷ after → GotFew (length before) (got_frame step.event)
+  got_stays_few before after step is =
+      (got_few (length before) (all_sound (length before)) before after step (got_frame step.event) is (omega arith) refl).0
+
+  -- and so is what a step sends, and its stamp
+  pub sent_stays_few : (before after : List Step) (step : Step) (f : Frame) (d : Did) → m ≡ before ++ step ∷ after → did_after (openings step.node) (entries_of step.node before) (entry_of step) ≡ Some d → Contains d.sends f → BodyIsFew (length m) f.body × (step.stamp ≤ length m)
+  sent_stays_few before after step f d is does there =
+      let made = (all_sound (suc (length before))).steps before after step d is (omega arith) does in
+      let long : suc (length before) ≤ length m = omega (arith, ap length is, length-append before (step ∷ after)) in
+      let stamp = made.stamp in
+      (body_weaken (suc (length before)) (length m) f.body long (made.did.sends f there), omega (arith, stamp, long))
 
 pub records_stay_few : RecordsStayFew
 records_stay_few openings journals m of local sent still new begins rest i s is replays =

@@ -23,11 +23,17 @@ use Rattle.cv_mesh.proofs.Going.{goes_then, looks_goes, stays_looks, worked_goes
 use Rattle.cv_mesh.proofs.Growing.{does_longer}
 use Rattle.cv_mesh.proofs.Kept.{turned_kept}
 use Rattle.cv_mesh.proofs.Listing.{each_as, each_back, each_self, each_set, each_then, same_map, sums_below, sums_up}
-use Rattle.cv_settle.specs.Settling.{Settled}
+use Rattle.cv_mesh.specs.Keeping.{Kept}
+use Rattle.cv_bounds.specs.Moments.{IsStart}
+use Rattle.cv_settle.specs.Settling.{Settled, StaysAtMoment}
+use Rattle.cv_settle.proofs.Timeless.{stays_as, stays_longer, stays_same, stays_then, untimed_acts}
 use Rattle.cv_cluster.specs.Cluster.{ClusterView, GoesOn, Grows}
-use Rattle.cv_cluster.specs.Holding.{Holds, node_of, spec_of}
+use Rattle.cv_cluster.specs.Holding.{Holds, IsNear, node_of, spec_of}
 use Rattle.cv_cluster.specs.Opening.{AllAreForNodes}
 use Rattle.cv_cluster.specs.Rounds.{Advances}
+use Rattle.cv_cluster.specs.Ticking.{StationTicks}
+use Rattle.cv_cluster.proofs.Early.{early_on, early_ticked, together_on, together_ticked}
+use Rattle.cv_cluster.proofs.Moments.{ticks_look}
 use Rattle.cv_cluster.proofs.Lists.{each_map, read_at, sum_map}
 
 -- 1. Firings
@@ -46,6 +52,10 @@ worked_counts s u w =
     let new = events_count longer.more ∙ ap firing_count_of longer.events ∙ w.round.counted in
     omega (arith, all, split, new)
 
+worked_stays : (s u : Station) → Worked s u → StaysAtMoment s u
+worked_stays s u w =
+    stays_longer s u (flat_map events_in w.acts) (does_longer (flat_map events_in w.acts) s.node w.round.works.frames u.node w.round.works.does) (untimed_acts w.acts w.round.works.are_acts w.round.own)
+
 -- the nodes stay
 same_firings : (R : Station → Station → Type 0) → ((s u : Station) → R s u → u.node ≡ s.node) → (ss us : List Station) → Each R ss us → firings_in us ≡ firings_in ss
 same_firings R same ss us each =
@@ -57,6 +67,9 @@ grows_as R same s t u grows k = record {
   more = grows.more;
   appends = ap (λ (n : Journalled). n.entries) (same t u k) ∙ grows.appends;
 }
+
+grows_none : (s : Station) → moving.Grows s s
+grows_none s = record { based = refl; more = []; appends = sym (append-nil s.node.entries) }
 
 -- 2. A round
 
@@ -81,11 +94,20 @@ module _ (failed : Bool) (ss ts us vs ws : List Station) (stays : Each Stays ss 
       let turning = same_firings Turns (λ s u k. k.node) vs ws turns in
       omega (arith, before, here, looking, turning)
 
+  same_moment : Each StaysAtMoment ss ws
+  same_moment =
+      let quiet = each_as Stays StaysAtMoment (λ s t k. stays_as s t k.node) ss ts stays in
+      let work = each_then StaysAtMoment StaysAtMoment StaysAtMoment stays_then ss ts us quiet (each_as Worked StaysAtMoment worked_stays ts us worked) in
+      let look = each_then StaysAtMoment Looks StaysAtMoment (λ s t u c k. stays_same s t u c k.node) ss us vs work looks in
+      each_then StaysAtMoment Turns StaysAtMoment (λ s t u c k. stays_same s t u c k.node) ss vs ws look turns
+
   pub round_advances : Advances failed (fired_in us) ss ws
   round_advances items was kept = record {
     kept = turned_kept items (was || failed) vs ws (steps_kept items was failed ss us vs kept go looks looked) turns;
     grows = grow;
     count = counted;
+    early = early_on ss ws grow same_moment;
+    together = together_on ss ws same_moment;
   }
 
 -- they can be looked at after the work
@@ -133,22 +155,41 @@ settles_tick t s u did room =
       calm = ap firing_count did.steps.appends ∙ sum_by-append (λ (e : Entry). if is_firing e.event then 1 else 0) s.node.entries (entry_of_row s.node.state (event.Tick t) ∷ []) ∙ omega arith;
     }
 
-pub calm_advances : (ss us vs : List Station) → Each (Settles false) ss us → Each Looks us vs → AllLooked vs → Advances false 0 ss vs
-calm_advances ss us vs settles looks looked items was kept =
+pub calm_advances : (t : ℕ) (ss us vs : List Station) → IsNear ss t → Each (StationTicks t) ss us → Each (Settles false) ss us → Each Looks us vs → AllLooked vs → Advances false 0 ss vs
+calm_advances t ss us vs near ticks settles looks looked items was kept =
     let go = each_as (Settles false) (Goes false) (λ s u k. k.goes) ss us settles in
     let calm = calm_sums ss us (each_as (Settles false) (λ s u. firing_count u.node.entries ≡ firing_count s.node.entries) (λ s u k. k.calm) ss us settles) in
     let same = same_firings Looks (λ s u k. k.node) us vs looks in
+    let ticked = each_then (StationTicks t) Looks (StationTicks t) (ticks_look t) ss us vs ticks looks in
     record {
       kept = steps_kept items was false ss us vs kept go looks looked;
       grows = each_then moving.Grows Looks moving.Grows (grows_as Looks (λ s u k. k.node)) ss us vs (each_as (Goes false) moving.Grows (goes_grows false) ss us go) looks;
       count = omega (arith, calm, same);
+      early = λ early. early_ticked t ss vs near ticked;
+      together = λ together. together_ticked t ss vs ticked;
     }
+
+-- where nothing went on
+pub none_advances : (ss : List Station) → Advances false 0 ss ss
+none_advances ss items was kept = record {
+  kept = still_kept was kept;
+  grows = each_self moving.Grows grows_none ss;
+  count = omega arith;
+  early = λ early. early;
+  together = λ together. together;
+}
+  where
+    still_kept : (was : Bool) → Kept items was ss → Kept items (was || false) ss
+    still_kept true k = k
+    still_kept false k = k
 
 pub settled_advances : (failed : Bool) (ss us : List Station) → Settled failed ss us → Advances failed 0 ss us
 settled_advances failed ss us settled items was kept = record {
   kept = settled.kept items was kept;
   grows = settled.grows;
   count = (let calm = settled.calm in omega (arith, calm));
+  early = early_on ss us settled.grows settled.stays;
+  together = together_on ss us settled.stays;
 }
 
 -- 4. In the words of the cluster
@@ -157,7 +198,13 @@ pub holds_on : (items : List Item) (was failed : Bool) (fired : ℕ) (ss us : Li
 holds_on items was failed fired ss us advances holds =
     let a = advances items was holds.kept in
     let same = same_map spec_of ss us a.grows.long (λ i s at. let u = a.grows.all i s at in (u.0, u.1, ap (λ (b : NodeState). b.spec) u.2.based)) in
-    record { kept = a.kept; fit = subst AllAreForNodes (sym same) holds.fit }
+    record {
+      kept = a.kept;
+      fit = subst AllAreForNodes (sym same) holds.fit;
+      started = λ i u at. let s = each_back moving.Grows ss us a.grows i u at in subst IsStart (sym s.2.based) (holds.started i s.0 s.1);
+      early = a.early holds.early;
+      together = a.together holds.together;
+    }
 
 -- memory was wanting in no call more, or in this one
 or_none : (items : List Item) (was : Bool) (us : List Station) → Holds items (was || false) us → Holds items was us

@@ -1,7 +1,10 @@
 pub mod Advancing
+pub mod Early
 pub mod Honest
 pub mod Lists
 pub mod Moments
 pub mod Nodes
 pub mod Quotas
+pub mod Reserving
 pub mod Turns
+pub mod Unspent

@@ -1,13 +1,18 @@
 -- Stations of nodes before their first entry hold what the stations of a cluster hold.
-use Rattle.std.proofs.Common.{◌≡◌, ℕ, zero, suc, ◌<◌, ◌==◌, ◌&&◌, ◌||◌, nat_le, Bool, true, false, List, [], ◌∷◌, ◌++◌, map, length, slice_get, slice_index_or, Some, refl, sym, ◌∙◌, ap, subst, arith}
+use Rattle.std.proofs.Common.{◌≡◌, ℕ, zero, suc, ◌<◌, ◌==◌, ◌&&◌, ◌||◌, nat_le, Bool, true, false, List, [], ◌∷◌, ◌++◌, map, length, slice_get, slice_index_or, Some, option_map, refl, sym, ◌∙◌, ap, subst, arith}
 use Rattle.std.specs.List.{list_all}
 use Rattle.std.proofs.lemmas.Bool.{eqb-true}
+use Rattle.std.proofs.lemmas.Option.{slice_get-map}
 use Rattle.cv_kinds.specs.Net.{Net}
+use Rattle.cv_kinds.specs.WellFormed.{IsWellFormed}
 use Rattle.cv_rules.specs.declared.attrs.NodeSpec.{NodeSpec}
 use Rattle.cv_protocol.specs.declared.event.Journal.{Journal}
 use Rattle.cv_protocol.specs.Rows.{is_node}
 use Rattle.cv_node.specs.Journalled.{Journalled}
 use Rattle.cv_link.specs.declared.items.Item.{Item}
+use Rattle.cv_alone.specs.Resting.{run_app}
+use Rattle.cv_bounds.specs.Moments.{IsStart, moment_of}
+use Rattle.cv_bounds.proofs.Pausing.{empty_is_start, opened_is_start}
 use Rattle.cv_merge.specs.Lanes.{Ascends}
 use Rattle.cv_station.specs.declared.station.Station.{Station}
 use Rattle.cv_mesh.specs.Joining.{AreNew, IsUnused}
@@ -55,7 +60,7 @@ map_back : {X : Type 0} (f : X → X) (xs : List X) → ((x : X) → f x ≡ x) 
 map_back f [] same = refl
 map_back f (x ∷ xs) same = ap (λ y. y ∷ map f xs) (same x) ∙ ap (λ ys. x ∷ ys) (map_back f xs same)
 
-module _ (made : NodeSpec → Journalled) (spec_made : (spec : NodeSpec) → (made spec).base.spec ≡ spec) (unused_made : (spec : NodeSpec) → IsUnused (made spec)) (items : List Item) (specs : List NodeSpec) (ss : List Station) (new : AreNew items (map made specs) ss) (ascend : Ascends (map (λ (s : NodeSpec). s.no) specs)) (fit : AllAreForNodes specs) where
+module _ (made : NodeSpec → Journalled) (spec_made : (spec : NodeSpec) → (made spec).base.spec ≡ spec) (unused_made : (spec : NodeSpec) → IsUnused (made spec)) (start_made : (spec : NodeSpec) → IsStart (made spec).base) (items : List Item) (specs : List NodeSpec) (ss : List Station) (new : AreNew items (map made specs) ss) (ascend : Ascends (map (λ (s : NodeSpec). s.no) specs)) (fit : AllAreForNodes specs) where
   specs_made : map (λ (n : Journalled). n.base.spec) (map made specs) ≡ specs
   specs_made =
       map_again (λ (n : Journalled). n.base.spec) made specs ∙ map_back (λ (s : NodeSpec). (made s).base.spec) specs spec_made
@@ -87,17 +92,33 @@ module _ (made : NodeSpec → Journalled) (spec_made : (spec : NodeSpec) → (ma
     few = kept_new.few;
   }
 
+  -- the node of a station is one that was made
+  made_at : (i : ℕ) (s : Station) → slice_get ss i ≡ Some s → (spec : NodeSpec) × (made spec ≡ s.node)
+  made_at i s at =
+      let there : slice_get (map made specs) i ≡ Some s.node = ap (λ (ns : List Journalled). slice_get ns i) (sym new.nodes) ∙ slice_get-map (λ (x : Station). x.node) ss i ∙ ap (option_map (λ (x : Station). x.node)) at in
+      let m = mapped_at made specs i s.node there in
+      (m.0, m.2)
+
+  none_at : (i : ℕ) (s : Station) → slice_get ss i ≡ Some s → s.node.entries ≡ []
+  none_at i s at = let m = made_at i s at in (subst IsUnused m.1 (unused_made m.0)).none
+
   pub made_holds : (was : Bool) → Holds items was ss
-  made_holds was = record { kept = kept_was was; fit = subst AllAreForNodes (sym specs_back) fit }
+  made_holds was = record {
+    kept = kept_was was;
+    fit = subst AllAreForNodes (sym specs_back) fit;
+    started = λ i s at. let m = made_at i s at in subst (λ (n : Journalled). IsStart n.base) m.1 (start_made m.0);
+    early = λ i s first at_first at. let none = ap (moment_of 0) (none_at i s at) in omega (arith, none);
+    together = λ i j s u at_s at_u. ap (moment_of 0) (none_at i s at_s ∙ sym (none_at j u at_u));
+  }
 
 pub new_holds : (items : List Item) (specs : List NodeSpec) (ss : List Station) → AreNew items (map new_node specs) ss → Ascends (map (λ (s : NodeSpec). s.no) specs) → AllAreForNodes specs → Holds items false ss
 new_holds items specs ss new ascend fit =
-    made_holds new_node (λ spec. refl) (λ spec. record { none = refl; replays = record { replays = refl } }) items specs ss new ascend fit false
+    made_holds new_node (λ spec. refl) (λ spec. record { none = refl; replays = record { replays = refl } }) empty_is_start items specs ss new ascend fit false
 
-pub opened_holds : (net : Net) (at : List ℕ) (items : List Item) (was : Bool) (ss us : List Station) → Holds items was ss → AreNew items (map (opened_as net at) (map spec_of ss)) us → Holds items was us
-opened_holds net at items was ss us holds new =
+pub opened_holds : (net : Net) (at : List ℕ) (items : List Item) (was : Bool) (ss us : List Station) → IsWellFormed net → Holds items was ss → AreNew items (map (opened_as net at) (map spec_of ss)) us → Holds items was us
+opened_holds net at items was ss us formed holds new =
     let ascend : Ascends (map (λ (s : NodeSpec). s.no) (map spec_of ss)) = subst Ascends (sym (map_again (λ (s : NodeSpec). s.no) spec_of ss)) holds.kept.ascend in
-    made_holds (opened_as net at) (λ spec. refl) (λ spec. record { none = refl; replays = record { replays = refl } }) items (map spec_of ss) us new ascend holds.fit was
+    made_holds (opened_as net at) (λ spec. refl) (λ spec. record { none = refl; replays = record { replays = refl } }) (λ spec. opened_is_start spec run_app net at formed) items (map spec_of ss) us new ascend holds.fit was
 
 pub opened_nodes : (net : Net) (at : List ℕ) (ss : List Station) → map (opened_as net at) (map spec_of ss) ≡ map (opened_node net at) (map node_of ss)
 opened_nodes net at ss =

@@ -21,7 +21,7 @@ no_more_room old new fired goes =
 
 ticks_room : (t : ℕ) (n m : Journalled) → TicksTo t n m → length m.entries ≤ journal_length → room_of m + 1 ≤ room_of n
 ticks_room t n m ticks few =
-    let longer = ap length ticks.steps.appends ∙ length-append n.entries (entry_of_row n.state (event.Tick t) ∷ []) in omega (arith, longer, few)
+    let longer = ap length ticks.appends ∙ length-append n.entries (entry_of_row n.state (event.Tick t) ∷ []) in omega (arith, longer, few)
 
 pub less_room : (old new : ClusterView) → Ticks old new → IsHonest new → rooms_of new.nodes < rooms_of old.nodes
 less_room old new ticks honest =

@@ -3,8 +3,11 @@ use Rattle.std.specs.Prelude.{◌≡◌, ℕ, ◌+◌, ◌<◌, ◌≤◌, ◌==
 use Rattle.std.specs.List.{sum_by}
 use Rattle.std.specs.Coded.{Coded, code_by, coded×, coded_list, coded_bool}
 use Rattle.cv_protocol.specs.declared.event.Entry.{Entry}
+use Rattle.cv_protocol.specs.declared.event.Event.{Event}
 use Rattle.cv_protocol.specs.declared.frame.Frame.{Frame}
+use Rattle.cv_protocol.specs.declared.refusal.StepRefusal.TheVariants as refusal
 use Rattle.cv_protocol.specs.Journals.{got_frame}
+use Rattle.cv_protocol.specs.NodeRow.{cause_of}
 use Rattle.cv_node.specs.Counts.{firing_count, journal_length}
 use Rattle.cv_node.specs.Journalled.{Journalled, journalled_code, IsReplay}
 use Rattle.cv_link.specs.declared.items.Item.{Item}
@@ -65,6 +68,21 @@ pub record WasSent (nodes : List Journalled) (f : Frame) : Type 0 where
   pub sender : Journalled
   pub there : Contains nodes sender
   pub sent : StandsSent sender f
+
+-- the event is one of a run, and a frame that it gets was sent
+pub record MayHappen (nodes : List Journalled) (e : Event) : Type 0 where
+  pub own : is_of_run e ≡ true
+  pub sent : (f : Frame) → got_frame e ≡ Some f → WasSent nodes f
+
+-- no node refuses such an event for a number: no stamp, count, attempt or moment reaches its limit
+abbrev pub NothingIsSpent : List Journalled → Type 0
+NothingIsSpent nodes =
+    (n : Journalled) (e : Event) → Contains nodes n → MayHappen nodes e → cause_of n.state e ≡ Some refusal.StampSpent → ⊥
+
+-- all nodes are at one moment
+abbrev pub AreAtOneMoment : List Journalled → Type 0
+AreAtOneMoment nodes =
+    (n m : Journalled) → Contains nodes n → Contains nodes m → n.state.now ≡ m.state.now
 
 -- each journal, of at most 2^30 entries, is a local run of rows that a run has; each frame that came was sent; and unless memory was wanting, what became of the
 -- frames of each link is what the items say

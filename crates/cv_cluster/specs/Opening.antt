@@ -22,7 +22,7 @@ AllAreForNodes specs = list_all is_for_node specs ≡ true
 
 -- a node before its first entry
 abbrev pub new_node : NodeSpec → Journalled
-new_node spec = record { base = opening spec; state = opening spec; entries = [] }
+new_node spec = record { base = opening spec; state = opening spec; entries = []; spare = 0 }
 
 -- 2. Items
 
@@ -57,7 +57,7 @@ AllAmong numbers nodes = list_all (is_among (map node_number nodes)) numbers ≡
 -- a node of that specification with the actors of the network in their places
 abbrev pub opened_as : Net → List ℕ → NodeSpec → Journalled
 opened_as net at spec =
-    record { base = opened spec run_app net at; state = opened spec run_app net at; entries = [] }
+    record { base = opened spec run_app net at; state = opened spec run_app net at; entries = []; spare = 0 }
 
 -- and one of the same specification
 abbrev pub opened_node : Net → List ℕ → Journalled → Journalled

@@ -2,9 +2,9 @@
 
 ghost use Rattle.std.specs.Prelude.{◌≡◌, ◌≤◌, ◌↔◌, ℕ, true, false, map, length, Ok, IfOk, OnOk, OnErr};
 ghost use Rattle.cv_merge.specs.Lanes.{Ascends};
-ghost use Rattle.cv_cluster.specs.Cluster.{GoesOn, IsHonest, length_of, node_number};
+ghost use Rattle.cv_cluster.specs.Cluster.{AreAtOneMoment, GoesOn, IsHonest, NothingIsSpent, length_of, node_number};
 ghost use Rattle.cv_cluster.specs.Opening.{AllAmong, AllAreForNodes, AllItemsFit, AllUnused, Opens, is_among, new_node};
-ghost use Rattle.cv_cluster.specs.Ticking.{SomeWakes, Ticks};
+ghost use Rattle.cv_cluster.specs.Ticking.{IsAsBefore, SomeWakes, Ticks};
 
 use crate::finding::{journals, length_at};
 use crate::opening::{new_nodes, open_nodes};
@@ -82,6 +82,7 @@ impl Cluster {
         ensures ok { OnOk result (Opens self.old net at.now self.new) }
         ensures err { OnErr result (self.new ≡ self.old) }
     {
+        net.well_formed();
         let nodes = open_nodes(alloc, &self.stations, &net, at)?;
         let stations = join_all(alloc, nodes, &self.items)?;
         self.stations = stations;
@@ -122,12 +123,14 @@ impl Cluster {
         }
     }
 
-    /// Lets time go on at all nodes to the least moment that an action waits for; false where none waits for one, and then nothing changes.
+    /// Lets time go on at all nodes to the least moment that an action waits for; false where none waits for one. Then nothing changes, and
+    /// nothing but the room made ahead where memory is wanting: it is made at each node before the first one ticks.
     pub fn tick(&mut self, alloc: Global) -> Result<bool, OutOfMemory>
         ensures goes { GoesOn self.old self.new 0 }
         ensures answers { IfOk result (λ b. (b ≡ true) ↔ SomeWakes self.old.nodes) }
         ensures ticks { result ≡ Ok true → Ticks self.old self.new }
         ensures still { result ≡ Ok false → self.new ≡ self.old }
+        ensures err { OnErr result (IsAsBefore self.old self.new) }
         ensures fine { OnOk result (self.new.failed ≡ self.old.failed) }
     {
         let Some(moment) = due_in(&self.stations) else {
@@ -156,6 +159,20 @@ impl Cluster {
     /// Each journal is a local run, each frame that came was sent, and what became of those of a link is what the items say.
     pub fn honest(&self)
         ensures { IsHonest self.now }
+    {
+        let _ = &self.stations;
+    }
+
+    /// No node of a run ever refuses an event for a number: no stamp, count, attempt or moment reaches its limit.
+    pub fn unspent(&self)
+        ensures { NothingIsSpent self.now.nodes }
+    {
+        let _ = &self.stations;
+    }
+
+    /// All nodes are at one moment between the calls.
+    pub fn at_one_moment(&self)
+        ensures { AreAtOneMoment self.now.nodes }
     {
         let _ = &self.stations;
     }

@@ -1,3 +1,4 @@
 pub mod Parts
 pub mod Settles
 pub mod Silent
+pub mod Timeless

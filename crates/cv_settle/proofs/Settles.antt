@@ -5,11 +5,12 @@ use Rattle.cv_node.specs.Counts.{firing_count}
 use Rattle.cv_node.specs.Journalled.{Journalled}
 use Rattle.cv_station.specs.declared.station.Station.{Station}
 use Rattle.cv_mesh.specs.Keeping.{Kept}
-use Rattle.cv_mesh.specs.Moving.{AllLooked, AreMeshed, Each, Goes, Grows, Looks, Settles, Turns}
+use Rattle.cv_mesh.specs.Moving.{AllLooked, AreMeshed, Each, Goes, Grows, Looks, Turns}
 use Rattle.cv_mesh.proofs.Composing.{calm_sums, goes_grows, looks_meshed, steps_kept, turns_meshed}
 use Rattle.cv_mesh.proofs.Kept.{turned_kept}
 use Rattle.cv_mesh.proofs.Listing.{each_as, each_self, each_then}
-use Rattle.cv_settle.specs.Settling.{Settled, Sweeps}
+use Rattle.cv_settle.specs.Settling.{Carries, Settled, StaysAtMoment, Sweeps}
+use Rattle.cv_settle.proofs.Timeless.{stays_same, stays_then}
 
 -- 1. Journals
 
@@ -34,7 +35,7 @@ grows_same s t u grows same = grows_then s t u grows (grows_as t u same)
 
 module _ (f : Bool) (ss ts us vs : List Station) (sweeps : Sweeps f ss ts) (looks : Each Looks ts us) (looked : AllLooked us) (turns : Each Turns us vs) where
   goes : Each (Goes f) ss ts
-  goes = each_as (Settles f) (Goes f) (λ s u k. k.goes) ss ts sweeps.settles
+  goes = each_as (Carries f) (Goes f) (λ s u k. k.settles.goes) ss ts sweeps.carries
 
   grown : Each Grows ss vs
   grown =
@@ -45,13 +46,18 @@ module _ (f : Bool) (ss ts us vs : List Station) (sweeps : Sweeps f ss ts) (look
 
   calm : Each SameCount ss vs
   calm =
-      each_then SameCount Turns SameCount (λ s t u c k. ap (λ (n : Journalled). firing_count n.entries) k.node ∙ c) ss us vs (each_then SameCount Looks SameCount (λ s t u c k. ap (λ (n : Journalled). firing_count n.entries) k.node ∙ c) ss ts us (each_as (Settles f) SameCount (λ s u k. k.calm) ss ts sweeps.settles) looks) turns
+      each_then SameCount Turns SameCount (λ s t u c k. ap (λ (n : Journalled). firing_count n.entries) k.node ∙ c) ss us vs (each_then SameCount Looks SameCount (λ s t u c k. ap (λ (n : Journalled). firing_count n.entries) k.node ∙ c) ss ts us (each_as (Carries f) SameCount (λ s u k. k.settles.calm) ss ts sweeps.carries) looks) turns
+
+  stays : Each StaysAtMoment ss vs
+  stays =
+      each_then StaysAtMoment Turns StaysAtMoment (λ s t u c k. stays_same s t u c k.node) ss us vs (each_then StaysAtMoment Looks StaysAtMoment (λ s t u c k. stays_same s t u c k.node) ss ts us (each_as (Carries f) StaysAtMoment (λ s u k. k.stays) ss ts sweeps.carries) looks) turns
 
   pub swept_settled : Settled f ss vs
   swept_settled = record {
     kept = λ items was k. turned_kept items (was || f) us vs (steps_kept items was f ss ts us k goes looks looked) turns;
     grows = grown;
     calm = calm_sums ss vs calm;
+    stays = stays;
     meshed = turns_meshed us vs turns (looks_meshed ts us looks sweeps.meshed);
   }
 
@@ -66,6 +72,7 @@ settled_none ss meshed = record {
   kept = λ items was k. subst (λ (b : Bool). Kept items b ss) (sym (or_none was)) k;
   grows = each_self Grows (λ s. grows_as s s refl) ss;
   calm = refl;
+  stays = each_self StaysAtMoment (λ s. record { same = λ now. refl }) ss;
   meshed = meshed;
 }
 
@@ -74,6 +81,7 @@ settled_then f ss ts us first second = record {
   kept = λ items was k. subst (λ (b : Bool). Kept items (b || f) us) (or_none was) (second.kept items (was || false) (first.kept items was k));
   grows = each_then Grows Grows Grows grows_then ss ts us first.grows second.grows;
   calm = second.calm ∙ first.calm;
+  stays = each_then StaysAtMoment StaysAtMoment StaysAtMoment stays_then ss ts us first.stays second.stays;
   meshed = second.meshed;
 }
 

@@ -16,10 +16,11 @@ use Rattle.cv_station.specs.Acts.{Does, NodeDoes, events_in}
 use Rattle.cv_station.specs.Going as station
 use Rattle.cv_station.proofs.Runs.{does_length, runs_one}
 use Rattle.cv_mesh.specs.Going.{is_of_run}
-use Rattle.cv_mesh.specs.Moving.{Looks, Settles}
+use Rattle.cv_mesh.specs.Moving.{Looks}
 use Rattle.cv_mesh.proofs.Going.{goes_then, looks_goes, looks_self_station, works_of_run}
 use Rattle.cv_mesh.proofs.Growing.{Longer, does_longer}
-use Rattle.cv_settle.specs.Settling.{is_carrying}
+use Rattle.cv_settle.specs.Settling.{Carries, is_carrying}
+use Rattle.cv_settle.proofs.Timeless.{stays_as, stays_longer, stays_then, untimed_acts, untimed_carrying}
 
 -- 1. Firings that are counted
 
@@ -39,19 +40,23 @@ calm_by es old new l none =
 
 -- 2. One after the other
 
-pub settles_looks : (f : Bool) (s u : Station) → Looks s u → Settles f s u
-settles_looks f s u k =
-    record { goes = looks_goes f s u k; calm = ap (λ (n : Journalled). firing_count n.entries) k.node }
+pub carries_looks : (f : Bool) (s u : Station) → Looks s u → Carries f s u
+carries_looks f s u k = record {
+  settles = record { goes = looks_goes f s u k; calm = ap (λ (n : Journalled). firing_count n.entries) k.node };
+  stays = stays_as s u k.node;
+}
 
-pub settles_none : (f : Bool) (s : Station) → Settles f s s
-settles_none f s = settles_looks f s s (looks_self_station s)
+pub carries_none : (f : Bool) (s : Station) → Carries f s s
+carries_none f s = carries_looks f s s (looks_self_station s)
 
-pub settles_back : (f : Bool) (s u : Station) → u ≡ s → Settles f s u
-settles_back f s u same = subst (Settles f s) (sym same) (settles_none f s)
+pub carries_back : (f : Bool) (s u : Station) → u ≡ s → Carries f s u
+carries_back f s u same = subst (Carries f s) (sym same) (carries_none f s)
 
-pub settles_then : (f : Bool) (s t u : Station) → Settles false s t → Settles f t u → Settles f s u
-settles_then f s t u first second =
-    record { goes = goes_then false f s t u first.goes second.goes; calm = second.calm ∙ first.calm }
+pub carries_then : (f : Bool) (s t u : Station) → Carries false s t → Carries f t u → Carries f s u
+carries_then f s t u first second = record {
+  settles = record { goes = goes_then false f s t u first.settles.goes second.settles.goes; calm = second.settles.calm ∙ first.settles.calm };
+  stays = stays_then s t u first.stays second.stays;
+}
 
 -- 3. A step of the node's own
 
@@ -116,29 +121,38 @@ one_step a b e sent steps = record {
   all = sym (append-nil (frames_of sent));
 }
 
-pub settles_stepped : (s u : Station) (e : Event) → station.Stepped s e u → is_carrying e ≡ true → length s.node.entries < journal_length → Settles false s u
-settles_stepped s u e did own room =
+pub carries_stepped : (s u : Station) (e : Event) → station.Stepped s e u → is_carrying e ≡ true → length s.node.entries < journal_length → Carries false s u
+carries_stepped s u e did own room =
     let does = one_step s.node u.node e did.sent did.steps in
     let longer = does_length (e ∷ []) (frames_of did.sent) s.node u.node does in
+    let grown = does_longer (e ∷ []) s.node (frames_of did.sent) u.node does in
     record {
-      goes = record {
-        acts = Does e ∷ [];
-        runs = runs_one false s u (Does e) (frames_of did.sent) (alone e own) tt (λ h. tt) does did.peers;
-        own = (of_run e own, tt);
-        few = λ h. omega (arith, longer, room);
+      settles = record {
+        goes = record {
+          acts = Does e ∷ [];
+          runs = runs_one false s u (Does e) (frames_of did.sent) (alone e own) tt (λ h. tt) does did.peers;
+          own = (of_run e own, tt);
+          few = λ h. omega (arith, longer, room);
+        };
+        calm = calm_by (e ∷ []) s.node u.node grown (fires_not e own);
       };
-      calm = calm_by (e ∷ []) s.node u.node (does_longer (e ∷ []) s.node (frames_of did.sent) u.node does) (fires_not e own);
+      stays = stays_longer s u (e ∷ []) grown (untimed_carrying e own, tt);
     }
 
 -- 4. Deliveries
 
-pub settles_delivered : (f : Bool) (s u : Station) → station.Goes journal_length s f u → u.fired ≡ s.fired → Settles f s u
-settles_delivered f s u go fired = record {
-  goes = record {
-    acts = go.acts;
-    runs = go.runs;
-    own = works_of_run go.acts go.own;
-    few = go.few;
-  };
-  calm = calm_by (flat_map events_in go.acts) s.node u.node (does_longer (flat_map events_in go.acts) s.node go.runs.frames u.node go.runs.does) (let counted = go.counted in omega (arith, counted, fired));
-}
+pub carries_delivered : (f : Bool) (s u : Station) → station.Goes journal_length s f u → u.fired ≡ s.fired → Carries f s u
+carries_delivered f s u go fired =
+    let grown = does_longer (flat_map events_in go.acts) s.node go.runs.frames u.node go.runs.does in
+    record {
+      settles = record {
+        goes = record {
+          acts = go.acts;
+          runs = go.runs;
+          own = works_of_run go.acts go.own;
+          few = go.few;
+        };
+        calm = calm_by (flat_map events_in go.acts) s.node u.node grown (let counted = go.counted in omega (arith, counted, fired));
+      };
+      stays = stays_longer s u (flat_map events_in go.acts) grown (untimed_acts go.acts go.runs.are_acts go.own);
+    }

@@ -1,8 +1,8 @@
 //! What one station does in a settle.
 
 ghost use Rattle.std.specs.Prelude.{◌≡◌, ◌<◌, length, true, is_err};
-ghost use Rattle.cv_mesh.specs.Moving.{AreMeshed, Settles};
-ghost use Rattle.cv_settle.specs.Settling.{Sweeps, is_carrying};
+ghost use Rattle.cv_mesh.specs.Moving.{AreMeshed};
+ghost use Rattle.cv_settle.specs.Settling.{Carries, Sweeps, is_carrying};
 
 use cv_node::JOURNAL_LENGTH;
 use cv_protocol::{Entry, Event, StepRefusal};
@@ -23,7 +23,7 @@ pub(crate) struct Came {
 /// Does an event of the node's own; tells whether. One that is refused changes nothing.
 fn act(alloc: Global, station: &mut Station, event: Event) -> Result<bool, OutOfMemory>
     requires { is_carrying event ≡ true }
-    ensures { Settles (is_err result) station.old station.new }
+    ensures { Carries (is_err result) station.old station.new }
 {
     if station.entries() >= JOURNAL_LENGTH {
         return Err(AllocError);
@@ -62,7 +62,7 @@ fn has_lost(entries: &[Entry], from: usize) -> bool {
 
 /// Delivers what all peers have pushed. Where the journal might be filled it's want of memory.
 fn deliver(alloc: Global, station: &mut Station) -> Result<Came, OutOfMemory>
-    ensures { Settles (is_err result) station.old station.new }
+    ensures { Carries (is_err result) station.old station.new }
 {
     let before = station.entries();
     if before > JOURNAL_LENGTH - MOST_ENTRIES {

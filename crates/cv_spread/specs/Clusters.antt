@@ -14,7 +14,7 @@ use Rattle.cv_spread.specs.Placing.{openings}
 
 -- node i before its first entry
 abbrev pub node_at : ℕ → Net → ℕ → Journalled
-node_at nodes net i = record { base = openings nodes net i; state = openings nodes net i; entries = [] }
+node_at nodes net i = record { base = openings nodes net i; state = openings nodes net i; entries = []; spare = 0 }
 
 -- the nodes 1 to `nodes` before their first entries, with these items
 abbrev pub opened_cluster : ℕ → Net → List Item → ClusterView

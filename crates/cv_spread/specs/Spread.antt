@@ -50,7 +50,8 @@ pub record IsSpreadRun (net : Net) (nodes : ℕ) (items : List Item) (most : ℕ
   -- each frame that came was sent by an earlier step, and what became of the frames of each link is what the items say
   pub sent : FramesWereSent (openings nodes net) m.entries
   pub links : (from to : ℕ) → IsNode nodes from → IsNode nodes to → LinkKept items from to (journals to)
-  -- the firings are those of the run's application, which are counted at the end
+  -- the firings are those of the run's application, which are counted at the end; behind the last of them the round's other workers, who don't know of it, may still
+  -- have passed, sent and delivered tokens
   pub ends : EndsAfter most stop (length (firings run_app m.entries))
   -- at every beginning of it each actor lives at its owner and nowhere else, and that is where it was placed
   pub owners : OneOwner (openings nodes net) (owners nodes net) m.entries

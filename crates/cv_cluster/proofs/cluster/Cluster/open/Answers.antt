@@ -20,7 +20,7 @@ invariant_of-self c =
     let nodes = c.in_ok-nodes.ensures ∙ ap (λ (zs : List Station). map (opened_as c.args.net c.args.at.now) (map spec_of zs)) c.deref.ensures.value in
     let joined = subst (λ (ns : List Journalled). AreNew c.deref-2.result.now ns us) nodes c.in_ok-stations.ensures in
     let new = subst (λ (is : List Item). AreNew is (map (opened_as c.args.net c.args.at.now) (map spec_of i.stations.items)) us) c.deref-2.ensures.value joined in
-    opened_holds c.args.net c.args.at.now i.items.items i.failed i.stations.items us c.self.invariant new
+    opened_holds c.args.net c.args.at.now i.items.items i.failed i.stations.items us c.well_formed-2.ensures c.self.invariant new
 
 pub returns-clause-ok : goal.returns-clause-ok
 returns-clause-ok c =
