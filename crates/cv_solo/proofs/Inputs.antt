@@ -17,14 +17,6 @@ inputs_next joins streams actor port count within =
     let left : count - port ≡ suc (count - (port + 1)) = omega arith in
     rw (left, add-one) refl
 
-waiting_on_none : (joins : List Join) (actor port : ℕ) → waiting joins [] actor port ≡ []
-waiting_on_none [] actor port = refl
-waiting_on_none (j ∷ js) actor port = refl
-
--- past the last stream nothing waits
-pub waiting_past : (joins : List Join) (streams : List Stream) (actor port place : ℕ) → length streams ≤ place → waiting (drop place joins) (drop place streams) actor port ≡ []
-waiting_past joins streams actor port place past = rw (drop_of_length-le streams past) (waiting_on_none (drop place joins) actor port)
-
 taken_on_none : (joins : List Join) (actor port : ℕ) → taken_at joins [] actor port ≡ []
 taken_on_none [] actor port = refl
 taken_on_none (j ∷ js) actor port = refl

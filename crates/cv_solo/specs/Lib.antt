@@ -3,4 +3,5 @@ pub mod Machine
 pub mod OneRuntime
 pub mod PlainNetwork
 pub mod PrintedText
+pub mod Touching
 pub mod Undoing

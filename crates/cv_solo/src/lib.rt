@@ -6,6 +6,7 @@ pub mod printing;
 pub mod round;
 pub mod solo;
 pub mod stream;
+mod touching;
 
 pub use solo::{Solo, SoloFault};
 pub use stream::Stream;

@@ -1,14 +1,16 @@
 //! `Solo`: the machine of the one-runtime meaning.
 
-ghost use Rattle.std.specs.Prelude.{◌≡◌, ◌==◌, ◌&&◌, ◌+◌, ◌<◌, ◌^◌, [], ◌++◌, length, vec_len, Some, None, false, map, replicate, drop, take, IfOk, OnOk, OnErr, Err, if◌then◌else◌, ◌≤◌};
-ghost use Rattle.cv_solo.specs.OneRuntime.{opening, waiting, inputs_from, inputs_of, given_on, taken_on, stream_after, streams_after, fire, ready_of, FiresOne};
+ghost use Rattle.std.specs.Prelude.{◌≡◌, ◌==◌, ◌&&◌, ◌+◌, ◌<◌, ◌^◌, [], ◌++◌, length, vec_len, Some, None, false, map, replicate, drop, take, IfOk, OnOk, OnErr, Err, if◌then◌else◌, ◌≤◌, All};
+ghost use Rattle.cv_solo.specs.OneRuntime.{opening, waiting, inputs_from, inputs_of, given_on, taken_on, stream_after, fire, ready_of, FiresOne};
 ghost use Rattle.cv_solo.specs.Machine.{Machine};
+ghost use Rattle.cv_solo.specs.Touching.{touching, changed_at_all};
 ghost use Rattle.cv_solo.specs.Undoing.{undone, without_last};
 ghost use Rattle.std.specs.Option.{option_copied};
 ghost use Rattle.cv_behave.specs.KindRow.{has_counts, head_at, heads_of};
 ghost use Rattle.cv_kinds.specs.KindRow.{row_of};
 
 use crate::stream::Stream;
+use crate::touching::{Places, places_by_actor};
 use cv_behave::{Behave, Effect, Outs};
 use cv_kinds::{ActorSpec, Join, Network};
 use cv_token::{Items, OutOfMemory, Token};
@@ -40,6 +42,8 @@ pub struct Solo {
     net: Network,
     slots: Vec<Items>,
     streams: Vec<Stream>,
+    /// Of each actor, the places of the connections that touch it.
+    places: Vec<Places>,
 }
 
 impl Model for Solo {
@@ -47,6 +51,7 @@ impl Model for Solo {
     ghost use Rattle.cv_token.specs.contracts.token.Token as token;
     ghost use Rattle.std.specs.Prelude.{length};
     ghost use Rattle.cv_solo.specs.Machine.{Machine, FitsNet};
+    ghost use Rattle.cv_solo.specs.Touching.{AreTouching};
 
     ghost Value = { Machine };
 
@@ -54,7 +59,10 @@ impl Model for Solo {
 
     ghost view = { λ s. record { net = s.net; runtime = record { slots = s.slots.items; streams = s.streams.items } } };
 
-    ghost invariant = { λ s. FitsNet s.net (length s.slots.items) (length s.streams.items) };
+    ghost invariant = { λ s. record {
+      fits : FitsNet s.net (length s.slots.items) (length s.streams.items);
+      touching : AreTouching s.places.items s.net.connections (length s.net.actors);
+    } };
 }
 
 impl Solo {
@@ -64,10 +72,12 @@ impl Solo {
     {
         let slots = starting_slots(alloc, net.actors())?;
         let streams = empty_streams(alloc, net.connections().len())?;
+        let places = places_by_actor(alloc, net.actors().len(), net.connections())?;
         Ok(Solo {
             net: net.copy(alloc)?,
             slots,
             streams,
+            places,
         })
     }
 
@@ -87,6 +97,7 @@ impl Solo {
             alloc,
             spec,
             self.net.connections(),
+            self.places[actor as usize].as_slice(),
             &mut self.slots[actor as usize],
             &mut self.streams,
             actor,
@@ -111,29 +122,48 @@ impl Solo {
     }
 }
 
-/// Fires an action of an actor with these slots.
+/// Fires an action of an actor with these slots. It looks at no connection that does not touch the actor.
+#[tactic(auto, using(crate::proofs::Touched::streams_touched, crate::proofs::Touched::touching_within))]
 fn fire_one(
     alloc: Global,
     spec: &ActorSpec,
     joins: &[Join],
+    places: &[usize],
     slots: &mut Items,
     streams: &mut Vec<Stream>,
     actor: u16,
     action: u8,
 ) -> Result<(), SoloFault>
-    requires { length joins.now ≡ vec_len streams.old }
+    requires by_connection { length joins.now ≡ vec_len streams.old }
+    requires touching { places.now ≡ touching joins.now actor }
     ensures len { vec_len streams.new ≡ vec_len streams.old }
     ensures fired { OnOk result (FiresOne spec.now joins.now actor action slots.old streams.old.items slots.new streams.new.items) }
     ensures not_enabled { result ≡ Err SoloFault.NotEnabled → ready_of spec.now joins.now actor action slots.old streams.old.items ≡ false }
     ensures only { ready_of spec.now joins.now actor action slots.old streams.old.items ≡ false → result ≡ Err SoloFault.NotEnabled }
     ensures err { OnErr result ((slots.new ≡ slots.old) × (streams.new.items ≡ streams.old.items)) }
 {
-    if !is_ready(spec, joins, streams.as_slice(), slots, actor, action) {
+    if !is_ready(
+        spec,
+        joins,
+        places,
+        streams.as_slice(),
+        slots,
+        actor,
+        action,
+    ) {
         return Err(SoloFault::NotEnabled);
     }
-    let heads = copied_heads(alloc, spec, joins, streams.as_slice(), actor, action)?;
+    let heads = copied_heads(
+        alloc,
+        spec,
+        joins,
+        places,
+        streams.as_slice(),
+        actor,
+        action,
+    )?;
     let Effect { state, out } = spec.kind.effect(alloc, &spec.args, slots, action, &heads)?;
-    advance_from(alloc, spec, actor, action, &out, joins, streams, 0)?;
+    advance_all(alloc, spec, actor, action, &out, joins, places, streams)?;
     *slots = state;
     Ok(())
 }
@@ -142,15 +172,18 @@ fn fire_one(
 fn is_ready(
     spec: &ActorSpec,
     joins: &[Join],
+    places: &[usize],
     streams: &[Stream],
     slots: &Items,
     actor: u16,
     action: u8,
 ) -> bool
+    requires by_connection { length joins.now ≡ length streams.now }
+    requires touching { places.now ≡ touching joins.now actor }
     ensures { result ≡ ready_of spec.now joins.now actor action slots.now streams.now }
 {
-    let head = guard_head(spec, joins, streams, actor);
-    has_counts(spec, joins, streams, actor, action)
+    let head = guard_head(spec, joins, places, streams, actor);
+    has_counts(spec, joins, places, streams, actor, action)
         && spec.kind.guard(&spec.args, slots, action, head)
 }
 
@@ -158,13 +191,16 @@ fn is_ready(
 fn guard_head<'a>(
     spec: &ActorSpec,
     joins: &[Join],
+    places: &[usize],
     streams: &'a [Stream],
     actor: u16,
 ) -> Option<&'a Token>
+    requires by_connection { length joins.now ≡ length streams.now }
+    requires touching { places.now ≡ touching joins.now actor }
     ensures { option_copied result ≡ head_at (row_of spec.now.kind).guard_port (inputs_of spec.now joins.now streams.now actor) }
 {
     let port = spec.kind.guard_port()?;
-    waiting(joins, streams, actor, port).first()
+    waiting(joins, places, streams, actor, port).first()
 }
 
 /// What a firing did to a connection.
@@ -176,27 +212,28 @@ pub(crate) struct Change {
     pub gave: bool,
 }
 
-/// What a firing writes to each connection and takes from it, for the connections from a place on. Want of memory changes
-/// nothing.
+/// What a firing writes to the connections at these places and takes from them. Want of memory changes nothing.
 #[cycle(advance)]
-fn advance_from(
+fn advance_all(
     alloc: Global,
     spec: &ActorSpec,
     actor: u16,
     action: u8,
     out: &Outs,
     joins: &[Join],
+    places: &[usize],
     streams: &mut Vec<Stream>,
-    place: usize,
 ) -> Result<(), OutOfMemory>
-    requires { length joins.now ≡ vec_len streams.old }
+    requires by_connection { length joins.now ≡ vec_len streams.old }
+    requires within { All (λ place. place < length joins.now) places.now }
     ensures len { vec_len streams.new ≡ vec_len streams.old }
-    ensures after { OnOk result (streams.new.items ≡ take place streams.old.items ++ streams_after spec.now actor action out.now (drop place joins.now) (drop place streams.old.items)) }
+    ensures after { OnOk result (streams.new.items ≡ changed_at_all (λ j s. stream_after spec.now actor action out.now j s) joins.now places.now streams.old.items) }
     ensures err { OnErr result (streams.new.items ≡ streams.old.items) }
 {
-    if place >= joins.len() {
+    let Some((first, rest)) = places.split_first() else {
         return Ok(());
-    }
+    };
+    let place = *first;
     let change = advance(
         alloc,
         spec,
@@ -206,7 +243,7 @@ fn advance_from(
         &joins[place],
         &mut streams[place],
     )?;
-    let rest = advance_from(alloc, spec, actor, action, out, joins, streams, place + 1);
+    let rest = advance_all(alloc, spec, actor, action, out, joins, rest, streams);
     if let Err(error) = rest {
         retreat(change, &mut streams[place]);
         return Err(error);
@@ -308,18 +345,22 @@ fn empty_streams(alloc: Global, count: usize) -> Result<Vec<Stream>, OutOfMemory
     Ok(streams)
 }
 
-/// The tokens that wait at an inport.
-#[tactic(auto, using(crate::proofs::Inputs::waiting_past))]
-fn waiting<'a>(joins: &[Join], streams: &'a [Stream], actor: u16, port: u8) -> &'a [Token]
+/// The tokens that wait at an inport of an actor.
+#[tactic(auto, using(crate::proofs::Touched::waiting_touched, crate::proofs::Touched::touching_within))]
+fn waiting<'a>(
+    joins: &[Join],
+    places: &[usize],
+    streams: &'a [Stream],
+    actor: u16,
+    port: u8,
+) -> &'a [Token]
+    requires by_connection { length joins.now ≡ length streams.now }
+    requires touching { places.now ≡ touching joins.now actor }
     ensures { result.now ≡ waiting joins.now streams.now actor port }
 {
-    for (place, join) in joins.iter().enumerate() {
-        if place >= streams.len() {
-            return &[];
-        }
-        let stream = &streams[place];
-        if feeds(join, actor, port) {
-            return left_of(stream);
+    for place in places {
+        if feeds(&joins[*place], actor, port) {
+            return left_of(&streams[*place]);
         }
     }
     &[]
@@ -346,12 +387,21 @@ fn left_of(stream: &Stream) -> &[Token]
 
 /// Whether each needed inport has its count.
 #[tactic(auto, using(crate::proofs::Inputs::inputs_next))]
-fn has_counts(spec: &ActorSpec, joins: &[Join], streams: &[Stream], actor: u16, action: u8) -> bool
+fn has_counts(
+    spec: &ActorSpec,
+    joins: &[Join],
+    places: &[usize],
+    streams: &[Stream],
+    actor: u16,
+    action: u8,
+) -> bool
+    requires by_connection { length joins.now ≡ length streams.now }
+    requires touching { places.now ≡ touching joins.now actor }
     ensures { result ≡ has_counts (row_of spec.now.kind) spec.now.args action 0 (inputs_from joins.now streams.now actor 0 (row_of spec.now.kind).inports) }
 {
     for port in 0..spec.kind.inports() {
         let needed = spec.kind.needs(&spec.args, action, port);
-        if waiting(joins, streams, actor, port).len() < needed as usize {
+        if waiting(joins, places, streams, actor, port).len() < needed as usize {
             return false;
         }
     }
@@ -364,10 +414,13 @@ fn copied_heads(
     alloc: Global,
     spec: &ActorSpec,
     joins: &[Join],
+    places: &[usize],
     streams: &[Stream],
     actor: u16,
     action: u8,
 ) -> Result<Items, OutOfMemory>
+    requires by_connection { length joins.now ≡ length streams.now }
+    requires touching { places.now ≡ touching joins.now actor }
     ensures { IfOk result (λ heads. heads ≡ heads_of (row_of spec.now.kind) spec.now.args action 0 (inputs_from joins.now streams.now actor 0 (row_of spec.now.kind).inports)) }
 {
     let mut heads = Items::new(alloc);
@@ -375,7 +428,7 @@ fn copied_heads(
         let needed = spec.kind.needs(&spec.args, action, port);
         copy_first(
             alloc,
-            waiting(joins, streams, actor, port),
+            waiting(joins, places, streams, actor, port),
             needed,
             &mut heads,
         )?;

@@ -1,5 +1,6 @@
-use Rattle.std.proofs.Common.{◌≡◌, ℕ, suc, ◌+◌, ◌∷◌, ◌++◌, List, arith, drop, Some, sym, ap, ◌∙◌, subst}
+use Rattle.std.proofs.Common.{◌≡◌, ℕ, suc, ◌+◌, [], ◌∷◌, ◌++◌, List, arith, drop, Some, sym, ap, ◌∙◌, subst, drop_of_length-le}
 use Rattle.std.proofs.Math.Seq.{drop-cons}
+use Rattle.std.proofs.lemmas.Option.{same_Some}
 use Rattle.cv_kinds.specs.Net.{Net}
 use Rattle.cv_protocol.specs.declared.event.Step.{Step}
 use Rattle.cv_solo.specs.OneRuntime.{solo_from}
@@ -23,3 +24,12 @@ loop-step-preserved c =
           let there = subst (λ (n : Net). solo_from n now (firing_of s.event ++ rest) ≡ Some r) (sym same) here in
           subst (λ (n : Net). solo_from n c.replay_step.new.solo.runtime rest ≡ Some r) same (c.in_ok-replay_step.ensures.goes_on rest r there);
     }
+
+pub returns : goal.returns
+returns c =
+    let steps = c.args.steps.now in
+    let none : firings_of (drop c.loop-step.step-index steps) ≡ [] = ap firings_of (drop_of_length-le steps (omega (arith, c.loop-step-test.false))) in (
+      c.loop-step.invariant.net,
+      λ r defined.
+          same_Some c.loop-step.solo.runtime r (subst (λ (fs : List (ℕ × ℕ)). solo_from c.args.net.now c.loop-step.solo.runtime fs ≡ Some r) none (c.loop-step.invariant.left r defined)),
+    )

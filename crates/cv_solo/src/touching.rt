@@ -1,0 +1,59 @@
+//! Which connections touch each actor.
+
+ghost use Rattle.std.specs.Prelude.{◌≡◌, ◌==◌, IfOk, OnOk, replicate, []};
+ghost use Rattle.cv_solo.specs.Touching.{touches, AreTouching, IsNoted};
+
+use cv_kinds::Join;
+use cv_token::OutOfMemory;
+use std::alloc::Global;
+
+/// Places of connections, in rising order.
+pub(crate) type Places = sqlite_items::Items<usize>;
+
+/// For each actor the places of the connections that lead to it or from it.
+pub(crate) fn places_by_actor(
+    alloc: Global,
+    actors: usize,
+    joins: &[Join],
+) -> Result<Vec<Places>, OutOfMemory>
+    ensures { IfOk result (λ places. AreTouching places.items joins.now actors) }
+{
+    let mut places = no_places(alloc, actors)?;
+    for (place, join) in joins.iter().enumerate() {
+        note(&mut places, join, place)?;
+    }
+    Ok(places)
+}
+
+/// So many actors with no places.
+fn no_places(alloc: Global, actors: usize) -> Result<Vec<Places>, OutOfMemory>
+    ensures { IfOk result (λ places. places.items ≡ replicate actors []) }
+{
+    let mut places = Vec::with_capacity(alloc, actors)?;
+    for _ in 0..actors {
+        places.push(Places::new(alloc))?;
+    }
+    Ok(places)
+}
+
+/// Notes a connection's place for the actors that it touches.
+fn note(places: &mut Vec<Places>, join: &Join, place: usize) -> Result<(), OutOfMemory>
+    ensures { OnOk result (IsNoted (touches join.now) place places.old.items places.new.items) }
+{
+    note_for(places, join.to, place)?;
+    if join.from != join.to {
+        note_for(places, join.from, place)?;
+    }
+    Ok(())
+}
+
+/// Notes a place for an actor, where there is one.
+fn note_for(places: &mut Vec<Places>, actor: u16, place: usize) -> Result<(), OutOfMemory>
+    ensures { OnOk result (IsNoted (λ other. actor == other) place places.old.items places.new.items) }
+{
+    let actor = actor as usize;
+    if actor < places.len() {
+        places[actor].push(place)?;
+    }
+    Ok(())
+}
