@@ -13,7 +13,7 @@ use Rattle.cv_node.specs.Journalled.{Journalled, IsReplay}
 use Rattle.cv_merge.specs.Lanes.{journal_at}
 use Rattle.cv_alone.specs.declared.alone.Stop.{Stop}
 use Rattle.cv_alone.specs.declared.alone.Stop.TheVariants.{Spent, Quiescent}
-use Rattle.cv_alone.specs.Going.{GoesOn, is_own}
+use Rattle.cv_alone.specs.Going.{EndsInFiring, GoesOn, is_own}
 use Rattle.cv_alone.specs.Recorded.{EndIsRight, IsOneNodeRun, first_entry, first_spec, only_first}
 use Rattle.cv_alone.specs.Resting.{IsPatient, Quiet}
 use Rattle.cv_alone.specs.Turns.{StaysPatient}
@@ -47,8 +47,8 @@ same_parts : (f g : ℕ → List Entry) (m : Record) → ((i : ℕ) → f i ≡ 
 same_parts f g m same is = record { parts = λ i. is.parts i ∙ same i; next_is_least = is.next_is_least }
 
 -- what the journal and the record say of the run
-pub recorded : (net : Net) (most : ℕ) (stop : Stop) (m : Record) (first now : Journalled) (j : Journal) → first.entries ≡ first_entry net ∷ [] → first.base ≡ opening first_spec → Ended net most stop first now → j.entries.items ≡ now.entries → j.spec ≡ now.base.spec → IsReplay now.base now.state now.entries → m.specs ≡ j.spec ∷ [] → IsRecordOf (journal_at (j ∷ [])) m.entries → IsOneNodeRun net most stop m
-recorded net most stop m first now j begins based e items spec kept specs is =
+pub recorded : (net : Net) (most : ℕ) (stop : Stop) (m : Record) (first now : Journalled) (j : Journal) → first.entries ≡ first_entry net ∷ [] → first.base ≡ opening first_spec → Ended net most stop first now → j.entries.items ≡ now.entries → j.spec ≡ now.base.spec → IsReplay now.base now.state now.entries → m.specs ≡ j.spec ∷ [] → IsRecordOf (journal_at (j ∷ [])) m.entries → (Stopped stop Spent → 0 < most → EndsInFiring now.entries) → IsOneNodeRun net most stop m
+recorded net most stop m first now j begins based e items spec kept specs is spends =
     let base : now.base ≡ opening first_spec = e.goes_on.based ∙ based in
     let own_spec : j.spec ≡ first_spec = spec ∙ ap (λ (s : NodeState). s.spec) base in
     let entries : now.entries ≡ first_entry net ∷ e.goes_on.more = e.goes_on.appends ∙ ap (λ (es : List Entry). es ++ e.goes_on.more) begins in
@@ -65,4 +65,5 @@ recorded net most stop m first now j begins based e items spec kept specs is =
       own = e.goes_on.own;
       patient = subst (λ (es : List Entry). IsPatient (length net.actors) (length net.connections) (opening first_spec) es) entries (subst (λ (b : NodeState). IsPatient (length net.actors) (length net.connections) b now.entries) base (e.patient begun));
       ends = subst (λ (n : ℕ). EndIsRight net most stop n now.state) (sym e.goes_on.firings) e.right;
+      spends = λ same some. subst EndsInFiring entries (spends (ap stopped same) some);
     }

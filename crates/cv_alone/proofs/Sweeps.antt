@@ -17,7 +17,7 @@ use Rattle.cv_node.specs.Counts.{firing_count, is_firing, journal_length}
 use Rattle.cv_node.specs.Journalled.{Journalled, Steps, entry_of_row}
 use Rattle.cv_node.specs.Polls.{HasPolled, Waits}
 use Rattle.cv_alone.specs.declared.sweep.Swept.{Swept}
-use Rattle.cv_alone.specs.Going.{GoesOn, Polls, all_may, is_prompt, swept_by}
+use Rattle.cv_alone.specs.Going.{EndsInFiring, GoesOn, Polls, all_may, is_prompt, swept_by}
 use Rattle.cv_alone.specs.Resting.{AllWait, WaitsFor, actor_id, conn_id, earlier, is_untimed, until_from, until_in, waits_for_none}
 
 -- 1. Going on
@@ -137,6 +137,7 @@ pub record SweptSoFar (start now : Journalled) (swept : Swept) (most place : ℕ
   pub goes_on : GoesOn is_prompt start now swept.fired
   pub none : swept.changed ≡ false → (now ≡ start) × (swept.fired ≡ 0) × AllWait start.state place swept.due
   pub more : swept.changed ≡ true → length start.entries < length now.entries
+  pub ends : 0 < most → most ≤ swept.fired → EndsInFiring now.entries
 
 pub swept_first : (start : Journalled) (most : ℕ) → SweptSoFar start start (record { changed = false; fired = 0; due = None }) most 0
 swept_first start most = record {
@@ -144,15 +145,20 @@ swept_first start most = record {
   goes_on = goes_on_self is_prompt start;
   none = λ h. (refl, refl, λ k low. absurd (omega (arith, low)));
   more = λ h. absurd (cc);
+  ends = λ some spent. absurd (omega (arith, some, spent));
 }
 
+ends_in_entry : (now next : Journalled) (e : Event) → Steps now e sent.Nothing next → is_firing e ≡ true → EndsInFiring next.entries
+ends_in_entry now next e steps fires = record { before = now.entries; last = entry_of_row now.state e; is = steps.appends; fires = fires }
+
 -- a poll that changes something
-changes : (start now next : Journalled) (was : Swept) (most place : ℕ) (e : Event) (count : ℕ) → SweptSoFar start now was most place → Steps now e sent.Nothing next → is_prompt e ≡ true → counts e ≡ count → was.fired + count ≤ most → length now.entries < journal_length → SweptSoFar start next (record was { changed = true; fired = was.fired + count }) most (place + 1)
-changes start now next was most place e count before steps own is low few = record {
+changes : (start now next : Journalled) (was : Swept) (most place : ℕ) (e : Event) (count : ℕ) → SweptSoFar start now was most place → Steps now e sent.Nothing next → is_prompt e ≡ true → counts e ≡ count → was.fired + count ≤ most → (most ≤ was.fired + count → is_firing e ≡ true) → length now.entries < journal_length → SweptSoFar start next (record was { changed = true; fired = was.fired + count }) most (place + 1)
+changes start now next was most place e count before steps own is low fires few = record {
   within = low;
   goes_on = goes_on_step is_prompt start now next was.fired count before.goes_on (subst (GoesOn is_prompt now next) is (goes_on_entry is_prompt now next e sent.Nothing steps own few));
   none = λ h. absurd (cc);
   more = λ h. omega (arith, not_shorter is_prompt start now was.fired before.goes_on, longer_by_entry now next e sent.Nothing steps);
+  ends = λ some spent. ends_in_entry now next e steps (fires spent);
 }
 
 later_due : (s : NodeState) (place : ℕ) (due : Option ℕ) (lacks : List (Option Need)) → AllWait s place due → AllWait s place (until_from due lacks)
@@ -173,14 +179,15 @@ waits_next start now next was most place lacks before done = record {
       } in
       (done.0 ∙ so_far.0, so_far.1, below_more (λ k. WaitsFor start.state (actor_id k) (until_from was.due lacks)) place (later_due start.state place was.due lacks so_far.2) here);
   more = λ h. subst (λ (j : Journalled). length start.entries < length j.entries) (sym done.0) (before.more h);
+  ends = λ some spent. subst (λ (j : Journalled). EndsInFiring j.entries) (sym done.0) (before.ends some spent);
 }
 
 by_told : (start now next : Journalled) (was : Swept) (most place : ℕ) (told : Polled) → SweptSoFar start now was most place → was.fired < most → HasPolled now (actor_id place) told next → length now.entries < journal_length → SweptSoFar start next (swept_by was told) most (place + 1)
 by_told start now next was most place (polled.Fired action) before left done few =
-    changes start now next was most place (event.Fire (actor_id place) action) 1 before done refl refl (omega (arith, left)) few
+    changes start now next was most place (event.Fire (actor_id place) action) 1 before done refl refl (omega (arith, left)) (λ spent. refl) few
 by_told start now next was most place (polled.Held port) before left done few =
     let same : was.fired + 0 ≡ was.fired = add-zero was.fired in
-    subst (λ (n : ℕ). SweptSoFar start next (record was { changed = true; fired = n }) most (place + 1)) same (changes start now next was most place (event.Peek (actor_id place) port) 0 before done refl refl (omega (arith, left)) few)
+    subst (λ (n : ℕ). SweptSoFar start next (record was { changed = true; fired = n }) most (place + 1)) same (changes start now next was most place (event.Peek (actor_id place) port) 0 before done refl refl (omega (arith, left)) (λ spent. absurd (omega (arith, left, spent))) few)
 by_told start now next was most place (polled.Waiting lacks) before left done few =
     waits_next start now next was most place lacks before done
 
@@ -195,4 +202,5 @@ spent_next start now swept most place some spent before = record {
   goes_on = before.goes_on;
   none = λ h. absurd (omega (arith, some, spent, (before.none h).1));
   more = before.more;
+  ends = before.ends;
 }

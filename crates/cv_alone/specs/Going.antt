@@ -1,5 +1,5 @@
 -- How the run of one node goes on.
-use Rattle.std.specs.Prelude.{◌≡◌, ℕ, ◌+◌, ◌≤◌, Bool, true, false, List, ◌++◌, length}
+use Rattle.std.specs.Prelude.{◌≡◌, ℕ, ◌+◌, ◌≤◌, Bool, true, false, List, [], ◌∷◌, ◌++◌, length}
 use Rattle.std.specs.List.{list_all}
 use Rattle.cv_token.specs.declared.identifiers.ActorId.{ActorId}
 use Rattle.cv_protocol.specs.declared.event.Entry.{Entry}
@@ -7,7 +7,7 @@ use Rattle.cv_protocol.specs.declared.event.Event.{Event}
 use Rattle.cv_protocol.specs.declared.event.Event.TheVariants as event
 use Rattle.cv_actor.specs.declared.act.Polled.{Polled}
 use Rattle.cv_actor.specs.declared.act.Polled.TheVariants as polled
-use Rattle.cv_node.specs.Counts.{firing_count, journal_length}
+use Rattle.cv_node.specs.Counts.{firing_count, is_firing, journal_length}
 use Rattle.cv_node.specs.Journalled.{Journalled}
 use Rattle.cv_node.specs.Polls.{HasPolled}
 use Rattle.cv_alone.specs.declared.sweep.Swept.{Swept}
@@ -63,6 +63,13 @@ pub record GoesOn (may : Event → Bool) (old new : Journalled) (fired : ℕ) : 
   pub firings : firing_count more ≡ fired
   pub based : new.base ≡ old.base
   pub few : length old.entries ≤ journal_length → length new.entries ≤ journal_length
+
+-- the last entry is a firing
+pub record EndsInFiring (entries : List Entry) : Type 0 where
+  pub before : List Entry
+  pub last : Entry
+  pub is : entries ≡ before ++ last ∷ []
+  pub fires : is_firing last.event ≡ true
 
 -- what a sweep over the actors did after one more poll
 abbrev pub swept_by : Swept → Polled → Swept

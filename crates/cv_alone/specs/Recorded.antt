@@ -10,7 +10,7 @@ use Rattle.cv_protocol.specs.Journals.{replay, IsRecordOf}
 use Rattle.cv_alone.specs.declared.alone.Stop.{Stop}
 use Rattle.cv_alone.specs.declared.alone.Stop.TheVariants.{Spent, Quiescent}
 use Rattle.cv_node.specs.Counts.{firing_count}
-use Rattle.cv_alone.specs.Going.{are_own}
+use Rattle.cv_alone.specs.Going.{EndsInFiring, are_own}
 use Rattle.cv_alone.specs.Resting.{IsPatient, Quiet}
 
 -- node 1: its number, how many actors it takes, how many tokens of a connection may be on their way, and its name
@@ -32,7 +32,8 @@ EndIsRight net most Quiescent firings state =
     (firings < most) × Quiet state (length net.actors) (length net.connections)
 
 -- a record of node 1 alone: its entries are a local run from the opening state, which begins with the deployment of the
--- network and goes on by the node's own events; time goes on only where nothing else can; and the end of the run is right
+-- network and goes on by the node's own events; time goes on only where nothing else can; the end of the run is right; and the
+-- record of a spent run ends with the firing that spent it
 pub record IsOneNodeRun (net : Net) (most : ℕ) (stop : Stop) (m : Record) : Type 0 where
   pub more : List Entry
   pub state : NodeState
@@ -43,3 +44,4 @@ pub record IsOneNodeRun (net : Net) (most : ℕ) (stop : Stop) (m : Record) : Ty
   -- time goes on only where nothing else can happen
   pub patient : IsPatient (length net.actors) (length net.connections) (opening first_spec) (first_entry net ∷ more)
   pub ends : EndIsRight net most stop (firing_count more) state
+  pub spends : stop ≡ Spent → 0 < most → EndsInFiring (first_entry net ∷ more)

@@ -3,7 +3,7 @@
 ghost use Rattle.std.specs.Prelude.{◌≡◌, ◌<◌, ◌≤◌, ℕ, [], ◌∷◌, length, codes, Ok, IfOk, OnOk};
 ghost use Rattle.cv_protocol.specs.NodeState.{opening};
 ghost use Rattle.cv_node.specs.Counts.{journal_length};
-ghost use Rattle.cv_alone.specs.Going.{GoesOn, is_own};
+ghost use Rattle.cv_alone.specs.Going.{EndsInFiring, GoesOn, is_own};
 ghost use Rattle.cv_alone.specs.Recorded.{IsOneNodeRun, first_entry, first_spec};
 ghost use Rattle.cv_alone.specs.Resting.{Quiet};
 ghost use Rattle.cv_alone.specs.Turns.{StaysPatient, Turns};
@@ -93,6 +93,7 @@ fn go_on(
     ensures quiescent { result ≡ Ok Stop.Quiescent → (fired : ℕ) × (fired < most) × GoesOn is_own node.old node.new fired }
     ensures quiet { result ≡ Ok Stop.Quiescent → Quiet node.new.state actors connections }
     ensures patient { OnOk result (StaysPatient actors connections node.old node.new) }
+    ensures ends { result ≡ Ok Stop.Spent → 0 < most → EndsInFiring node.new.entries }
 {
     let mut left = most;
     while left > 0 {

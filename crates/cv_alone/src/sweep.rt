@@ -7,7 +7,7 @@ ghost use Rattle.cv_protocol.specs.NodeRow.{row};
 ghost use Rattle.cv_node.specs.Counts.{journal_length};
 ghost use Rattle.cv_node.specs.Journalled.{IsReplay, Steps};
 ghost use Rattle.cv_node.specs.Polls.{HasPolled};
-ghost use Rattle.cv_alone.specs.Going.{GoesOn, Polls, is_prompt};
+ghost use Rattle.cv_alone.specs.Going.{EndsInFiring, GoesOn, Polls, is_prompt};
 ghost use Rattle.cv_alone.specs.Resting.{AllWait, actor_id, conn_id, earlier, until_from, until_in};
 
 use cv_actor::Polled;
@@ -137,6 +137,7 @@ pub(crate) fn poll_all(
     ensures ok { IfOk result (λ swept. (swept.fired ≤ most) × GoesOn is_prompt node.old node.new swept.fired) }
     ensures none { IfOk result (λ swept. swept.changed ≡ false → (node.new ≡ node.old) × (swept.fired ≡ 0) × AllWait node.old.state actors swept.due) }
     ensures more { IfOk result (λ swept. swept.changed ≡ true → length node.old.entries < length node.new.entries) }
+    ensures ends { IfOk result (λ swept. swept.fired ≡ most → EndsInFiring node.new.entries) }
 {
     let mut swept = Swept {
         changed: false,

@@ -14,6 +14,7 @@ loop-left-preserved c =
       within = omega (arith, c.loop-left.invariant.within);
       goes_on = subst (GoesOn is_own c.args.node.now c.turn.new.node) count (goes_on_step is_own c.args.node.now c.loop-left.node c.turn.new.node (c.args.most - c.loop-left.left) c.in-Some.fired c.loop-left.invariant.goes_on turns.1);
       patient = λ h. turns.3 (c.loop-left.invariant.patient h);
+      ends = λ spent some. turns.4 (omega (arith, turns.0, spent));
     }
 
 pub returns-in_default-clause-patient : goal.returns-in_default-clause-patient

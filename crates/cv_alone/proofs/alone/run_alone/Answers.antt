@@ -16,4 +16,4 @@ returns c =
     let sizes = c.sizes-actors in
     recorded c.args.net c.args.most c.in_ok-stop.stop c.in_ok-merged.merged c.in_ok-node.node c.go_on.new.node journal c.in_ok-node.ensures.entries c.in_ok-node.ensures.base
     (ended c.args.net c.args.most sizes.result.0 sizes.result.1 c.in_ok-stop.stop c.in_ok-node.node c.go_on.new.node sizes.ensures.actors sizes.ensures.connections stop.spent stop.quiescent stop.quiet stop.patient)
-    told.entries told.spec told.replays specs entries
+    told.entries told.spec told.replays specs entries stop.ends

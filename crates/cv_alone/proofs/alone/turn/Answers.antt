@@ -28,7 +28,7 @@ returns-then-passed c =
       | then-passed-via-then-passed w ↦ (let m = c.in_ok-passed.ensures.more (ap Ok w.if-passed.true) in omega (arith, m, second))
       | then-passed-via-else-passed+then-swept w ↦ (let m = c.in_ok-swept.ensures.more w.if-swept.true in omega (arith, m, first))
     ] in
-    changes c.args.node.now c.pass_all.new.node c.poll_all.new.node c.args.actors c.args.connections c.args.most c.in_ok-swept.swept.fired passes polls.1 polls.0 longer
+    changes c.args.node.now c.pass_all.new.node c.poll_all.new.node c.args.actors c.args.connections c.args.most c.in_ok-swept.swept.fired passes polls.1 polls.0 longer c.in_ok-swept.ensures.ends
 
 pub returns : goal.returns
 returns c =
@@ -40,4 +40,4 @@ returns c =
     let steps = subst (λ (j : Journalled). Steps j (event.Tick c.in-Some.moment) sent.Nothing c.tick.new.node) same c.in_ok-tick.ensures.ticked in
     let few = subst (λ (j : Journalled). length j.entries < journal_length) same c.in_ok-tick.ensures.few in
     let kept = subst (λ (j : Journalled). IsReplay j.base j.state j.entries) same c.in_ok-tick.ensures.replays in
-    ticks c.args.node.now c.tick.new.node c.args.actors c.args.connections c.args.most c.in-Some.moment steps few kept rest
+    ticks c.args.node.now c.tick.new.node c.args.actors c.args.connections c.args.most c.in-Some.moment c.requires steps few kept rest
