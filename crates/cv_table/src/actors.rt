@@ -64,10 +64,15 @@ impl<V> ActorTable<V> {
         self.inner.len()
     }
 
-    /// The value of the actor.
+    /// The value of the actor. It mostly stands at the place of the actor's number, so that place is looked at first.
     pub fn get(&self, actor: ActorId) -> Option<&V>
         ensures { option_copied result ≡ map.get self.now.map actor }
     {
+        if let Some((key, value)) = self.inner.get_index(usize::from(actor.actor)) {
+            if *key == actor {
+                return Some(value);
+            }
+        }
         self.inner.get(&actor)
     }
 
