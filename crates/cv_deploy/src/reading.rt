@@ -1,7 +1,6 @@
 //! The script that bytes spell.
 
 ghost use Rattle.std.specs.Prelude.{◌≡◌, ◌≤◌, ◌^◌, ◌⊎◌, length, Ok, IfOk, IfErr};
-ghost use Rattle.cv_lex.specs.Lexemes.{lexemes as lexemes_of};
 ghost use Rattle.cv_syntax.specs.declared.tree.Script.{Script};
 ghost use Rattle.cv_deploy.specs.declared.fault.Fault.{Fault};
 ghost use Rattle.cv_deploy.specs.Faults.{SpellsScript, SpellsFault, Gives, Refuses, HasFault, IsCaused, LexedTo, ParsedTo};

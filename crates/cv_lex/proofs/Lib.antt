@@ -3,6 +3,7 @@ pub mod Skips
 pub mod Edges
 pub mod Found
 pub mod Sayings
+pub mod Forms
 pub mod Runs
 pub mod Places
 pub mod Insides

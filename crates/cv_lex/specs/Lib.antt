@@ -5,6 +5,7 @@ pub mod Fronts
 pub mod Lexemes
 pub mod Numbers
 pub mod Pieces
+pub mod Saying
 pub mod Shapes
 pub mod Spans
 pub mod Spelling

@@ -16,5 +16,6 @@ pub mod wording;
 pub use lexeme::{LexFault, Lexeme, Sort};
 pub use lexing::{before_a_space, lex, one_spelling};
 pub use name_text::NameText;
+pub use saying::one_saying;
 pub use word::{Mark, Placed, Reserved, Word};
 pub use wording::words;

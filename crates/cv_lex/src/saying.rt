@@ -1,9 +1,10 @@
 //! What stands between the quotes of a text, with the characters of its escapes.
 
-ghost use Rattle.std.specs.Prelude.{◌≡◌, ℕ, ◌+◌, ◌<◌, ◌≤◌, ◌++◌, length, drop, string_bytes, IfOk};
+ghost use Rattle.std.specs.Prelude.{◌≡◌, ◌↔◌, ℕ, ◌+◌, ◌<◌, ◌≤◌, ◌++◌, List, Ok, length, drop, string_bytes, IfOk};
 ghost use Rattle.std.specs.Str.{IsCharBoundary};
 ghost use Rattle.cv_lex.specs.Texts.{said, said_from, with_bytes};
 ghost use Rattle.cv_lex.specs.Pieces.{Says};
+ghost use Rattle.cv_lex.specs.Saying.{SaysText};
 
 use crate::classes::plain_bytes;
 use crate::escapes::escape_of;
@@ -45,3 +46,9 @@ pub fn said(alloc: Global, inside: &str) -> Result<Text, OutOfMemory>
     }
     Ok(Text::from_string(text))
 }
+
+/// What is read from the bytes between the quotes of a text is what they say, form by form, and they say one text at most.
+pub fn one_saying()
+    ensures same { (inside text : List ℕ) → (said_from 0 0 inside ≡ Ok text) ↔ SaysText inside text }
+    ensures one { (inside first second : List ℕ) → SaysText inside first → SaysText inside second → first ≡ second }
+{}

@@ -1,8 +1,8 @@
 //! Lexemes turned into words.
 
-ghost use Rattle.std.specs.Prelude.{◌≡◌, ◌<◌, ◌≤◌, length, map, Ok, IfOk, All};
+ghost use Rattle.std.specs.Prelude.{◌≡◌, ◌<◌, ◌≤◌, length, map, IfOk, All};
 ghost use Rattle.cv_lex.specs.Cuts.{IsCut, IsNamed};
-ghost use Rattle.cv_lex.specs.Lexemes.{lexemes};
+ghost use Rattle.cv_lex.specs.Spelling.{Spells};
 ghost use Rattle.cv_lex.specs.Shapes.{Fits, IsName};
 ghost use Rattle.cv_lex.specs.Words.{name_word, reserved_of, bytes_of, inside_of, placed_word};
 
@@ -72,7 +72,7 @@ fn word_of(alloc: Global, source: &str, lexeme: &Lexeme) -> Result<Word, OutOfMe
 
 /// The words that the lexemes of a source are, with their places.
 pub fn words(alloc: Global, source: &str, found: &[Lexeme]) -> Result<Vec<Placed>, OutOfMemory>
-    requires { lexemes 0 0 source.now ≡ Ok found.now }
+    requires { Spells 0 source.now found.now }
     ensures words { IfOk result (λ words. words.items ≡ map (placed_word source.now) found.now) }
 
     // So each integer has its number, and each text says characters: what a word of another lexeme

@@ -8,6 +8,4 @@ pub mod Levels
 pub mod Uniqueness
 pub mod Theorem
 pub mod Asides
-pub mod Prints
 pub mod Weights
-pub mod Rewritten

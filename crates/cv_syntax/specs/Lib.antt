@@ -5,4 +5,3 @@ pub mod Parsing
 pub mod Spelling
 pub mod Grammar
 pub mod Asides
-pub mod Printing

@@ -1,7 +1,7 @@
 //! Lexemes parsed to a script.
 
 ghost use Rattle.std.specs.Prelude.{◌≡◌, ◌≤◌, ◌^◌, length, Ok, Err, IfOk, IfErr};
-ghost use Rattle.cv_lex.specs.Lexemes.{lexemes as lexemes_of};
+ghost use Rattle.cv_lex.specs.Spelling.{Spells as SpellsLexemes};
 ghost use Rattle.cv_readers.specs.Reading.{Miss};
 ghost use Rattle.cv_syntax.specs.declared.tree.Script.{Script};
 ghost use Rattle.cv_syntax.specs.declared.fault.ParseFault.{ParseFault};
@@ -44,7 +44,7 @@ fn parse_words(alloc: Global, end: u32, words: &[Placed]) -> Result<Script, Pars
 /// The same for the lexemes of a source.
 fn parse_all(alloc: Global, source: &str, lexemes: &[Lexeme]) -> Result<Script, ParseFault>
     requires small { length source.now ≤ 2 ^ 31 }
-    requires lexed { lexemes_of 0 0 source.now ≡ Ok lexemes.now }
+    requires lexed { SpellsLexemes 0 source.now lexemes.now }
     ensures { Answers result (parsed (length source.now) (words_of source.now lexemes.now)) }
 {
     let words = words(alloc, source, lexemes)?;
@@ -54,7 +54,7 @@ fn parse_all(alloc: Global, source: &str, lexemes: &[Lexeme]) -> Result<Script, 
 /// The script that the lexemes of a source spell, or the fault that is furthest left.
 pub fn parse(alloc: Global, source: &str, lexemes: &[Lexeme]) -> Result<Script, ParseFault>
     requires small { length source.now ≤ 2 ^ 31 }
-    requires lexed { lexemes_of 0 0 source.now ≡ Ok lexemes.now }
+    requires lexed { SpellsLexemes 0 source.now lexemes.now }
     // What is parsed is spelled by these words.
     ensures found { IfOk result (λ script. Spells (words_of source.now lexemes.now) script) }
     // What these words spell is parsed, unless memory runs out, and they spell nothing else.

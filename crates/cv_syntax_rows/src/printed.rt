@@ -1,8 +1,9 @@
 //! Printed scripts: each word with a space behind it, worked out by hand, and the same once more when that text is read.
 
 use cv_lex::lex;
-use cv_syntax::{parse, print};
+use cv_syntax::parse;
 use cv_token::Text;
+use cv_writing::print;
 use std::alloc::Global;
 use std::process::Abort;
 use std::test::Fail;

@@ -1,0 +1,118 @@
+//! Declarations and joins printed as text.
+
+ghost use Rattle.std.specs.Prelude.{◌≡◌, string_bytes, OnOk};
+ghost use Rattle.cv_lex.specs.declared.word.Mark.TheVariants.{Comma};
+ghost use Rattle.cv_readers.specs.Slots.{sep_slots};
+ghost use Rattle.cv_syntax.specs.Spelling.{kind_slots, declare_slots, source_slots, target_slots, aim_slots, join_slots, statement_slots};
+ghost use Rattle.cv_writing.specs.Printing.{Adds};
+
+use crate::print_values::{close_args, print_literal, print_name};
+use crate::writing::{push_mark, push_name, push_reserved};
+use cv_lex::{Mark, Reserved};
+use cv_syntax::{Aim, Declare, Join, KindName, Source, Statement, Target};
+use cv_token::OutOfMemory;
+use sqlite_items::Items;
+
+/// The name of a kind.
+fn print_kind(out: &mut String, kind: &KindName) -> Result<(), OutOfMemory>
+    ensures { OnOk result (Adds (string_bytes out.old) (string_bytes out.new) (kind_slots kind.now)) }
+{
+    match kind {
+        KindName::Plain(name) => push_name(out, name.as_str()),
+        KindName::Dotted(first, second) => {
+            push_name(out, first.as_str())?;
+            push_mark(out, Mark::Dot)?;
+            push_name(out, second.as_str())
+        }
+    }
+}
+
+/// A declaration.
+fn print_declare(out: &mut String, declare: &Declare) -> Result<(), OutOfMemory>
+    ensures { OnOk result (Adds (string_bytes out.old) (string_bytes out.new) (declare_slots declare.now)) }
+{
+    print_name(out, &declare.name)?;
+    push_mark(out, Mark::Colon)?;
+    print_kind(out, &declare.kind)?;
+    push_mark(out, Mark::OpenParen)?;
+    close_args(out, &declare.args)
+}
+
+/// Where a join comes from.
+fn print_source(out: &mut String, source: &Source) -> Result<(), OutOfMemory>
+    ensures { OnOk result (Adds (string_bytes out.old) (string_bytes out.new) (source_slots 0 source.now)) }
+{
+    match source {
+        Source::Voidport => push_reserved(out, Reserved::Voidport),
+        Source::Own(port) => {
+            push_mark(out, Mark::Dot)?;
+            push_name(out, port.as_str())
+        }
+        Source::Port(actor, port) => {
+            push_name(out, actor.as_str())?;
+            push_mark(out, Mark::Dot)?;
+            push_name(out, port.as_str())
+        }
+        Source::Name(name) => push_name(out, name.as_str()),
+        Source::Literal(literal) => print_literal(out, literal),
+    }
+}
+
+/// Where a join goes.
+fn print_target(out: &mut String, target: &Target) -> Result<(), OutOfMemory>
+    ensures { OnOk result (Adds (string_bytes out.old) (string_bytes out.new) (target_slots target.now)) }
+{
+    match target {
+        Target::Voidport => push_reserved(out, Reserved::Voidport),
+        Target::Own(port) => {
+            push_mark(out, Mark::Dot)?;
+            push_name(out, port.as_str())
+        }
+        Target::Port(actor, port) => {
+            push_name(out, actor.as_str())?;
+            push_mark(out, Mark::Dot)?;
+            push_name(out, port.as_str())
+        }
+    }
+}
+
+/// A target, whatever its place.
+fn print_aim(out: &mut String, aim: &Aim) -> Result<(), OutOfMemory>
+    ensures { OnOk result (Adds (string_bytes out.old) (string_bytes out.new) (aim_slots aim.now)) }
+{
+    print_target(out, &aim.target)
+}
+
+/// Targets with commas between them.
+fn print_aims(out: &mut String, aims: &Items<Aim>) -> Result<(), OutOfMemory>
+    ensures { OnOk result (Adds (string_bytes out.old) (string_bytes out.new) (sep_slots Comma aim_slots aims.now)) }
+{
+    let Some((first, rest)) = aims.as_slice().split_first() else {
+        return Ok(());
+    };
+    print_aim(out, first)?;
+    for aim in rest {
+        push_mark(out, Mark::Comma)?;
+        print_aim(out, aim)?;
+    }
+    Ok(())
+}
+
+/// A join.
+fn print_join(out: &mut String, join: &Join) -> Result<(), OutOfMemory>
+    ensures { OnOk result (Adds (string_bytes out.old) (string_bytes out.new) (join_slots join.now)) }
+{
+    print_source(out, &join.source)?;
+    push_mark(out, Mark::Greater)?;
+    print_aims(out, &join.targets)
+}
+
+/// A declaration or a join.
+pub(crate) fn print_statement(out: &mut String, statement: &Statement) -> Result<(), OutOfMemory>
+    ensures { OnOk result (Adds (string_bytes out.old) (string_bytes out.new) (statement_slots statement.now)) }
+{
+    match statement {
+        Statement::Declare(declare) => print_declare(out, declare),
+        Statement::Join(join) => print_join(out, join),
+    }
+}
