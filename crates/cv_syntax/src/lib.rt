@@ -1,6 +1,7 @@
 //! Scripts as they are written: the tree and the parser.
 #![tactic(auto)]
 
+mod entries;
 pub mod fault;
 mod nested;
 pub mod parsing;

@@ -5,8 +5,9 @@ ghost use Rattle.cv_lex.specs.declared.word.Reserved.TheVariants.{Apply, Compone
 ghost use Rattle.cv_readers.specs.Reading.{Gives, first_is, is_reserved};
 ghost use Rattle.cv_syntax.specs.Whole.{most_levels, component_at, define_at, rule_at, apply_at, item_at, items_at};
 
+use crate::entries::{read_listed, read_row};
 use crate::nested::read_terms;
-use crate::rows::{MOST_LEVELS, read_name_list, read_name_row, read_value};
+use crate::rows::{MOST_LEVELS, read_value};
 use crate::statements::{read_body, read_statement};
 use crate::tree::{Apply, Component, Define, Item, NamedRule};
 use cv_lex::{Mark, Placed, Reserved};
@@ -23,9 +24,9 @@ fn read_component(alloc: Global, words: &[Placed]) -> Result<(Component, &[Place
     let (_, rest) = take_reserved(Reserved::Component, words)?;
     let (name, rest) = take_name(alloc, rest)?;
     let rest = take_mark(Mark::OpenParen, rest)?;
-    let (args, rest) = read_name_list(alloc, Mark::CloseParen, rest)?;
-    let (inports, rest) = read_name_list(alloc, Mark::Arrow, rest)?;
-    let (outports, rest) = read_name_list(alloc, Mark::OpenBrace, rest)?;
+    let (args, rest) = read_listed(alloc, Mark::CloseParen, rest)?;
+    let (inports, rest) = read_listed(alloc, Mark::Arrow, rest)?;
+    let (outports, rest) = read_listed(alloc, Mark::OpenBrace, rest)?;
     let (body, rest) = read_body(alloc, rest)?;
     Ok((
         Component {
@@ -72,7 +73,7 @@ fn read_apply(alloc: Global, words: &[Placed]) -> Result<(Apply, &[Placed]), Sto
     ensures shorter { IfOk result (λ p. length p.1.now < length words.now) }
 {
     let (at, rest) = take_reserved(Reserved::Apply, words)?;
-    let (names, rest) = read_name_row(alloc, rest)?;
+    let (names, rest) = read_row(alloc, Mark::Comma, rest)?;
     let rest = take_mark(Mark::Colon, rest)?;
     let (terms, rest) = read_terms(alloc, rest, MOST_LEVELS)?;
     Ok((Apply { at, names, terms }, rest))

@@ -1,18 +1,16 @@
 //! The readers of what does not nest.
 
 ghost use Rattle.std.specs.Prelude.{◌≡◌, ◌<◌, length, IfOk, MatchOption, true, false};
-ghost use Rattle.cv_lex.specs.declared.word.Mark.TheVariants.{Comma, CloseBrace};
 ghost use Rattle.cv_readers.specs.Reading.{Gives, GivesRest, first_is, behind, is_reserved};
-ghost use Rattle.cv_readers.specs.Combining.{sep, listed};
 ghost use Rattle.cv_syntax.specs.Small.{kind_at, target_at, aim_at, is_name, is_any_name, exactly_at, match_name, index_name, field_at, fields_at, index_at, bracket_at, group_at, match_at, scalar_at};
 
+use crate::entries::{Entry, read_listed};
 use crate::tree::{Aim, KindName, Literal, Match, Target};
 use cv_lex::{Mark, Placed, Reserved, Word};
 use cv_readers::{
     Stop, first_of, is_reserved, open_mark, place_of, skip_mark, take_bare, take_mark, take_text,
 };
-use cv_token::Pair;
-use sqlite_items::Items;
+use cv_token::{Pair, Text};
 use std::alloc::Global;
 
 /// A literal of one word.
@@ -84,13 +82,23 @@ fn read_target(alloc: Global, words: &[Placed]) -> Result<(Target, &[Placed]), S
 
 /// A target with its place.
 #[tactic(auto, unfolding(crate::specs::Small::aim_at))]
-pub(crate) fn read_aim(alloc: Global, words: &[Placed]) -> Result<(Aim, &[Placed]), Stop>
+fn read_aim(alloc: Global, words: &[Placed]) -> Result<(Aim, &[Placed]), Stop>
     ensures value { Gives result (aim_at words.now) }
     ensures shorter { IfOk result (λ p. length p.1.now < length words.now) }
 {
     let at = place_of(words);
     let (target, rest) = read_target(alloc, words)?;
     Ok((Aim { at, target }, rest))
+}
+
+impl Entry for Aim {
+    ghost use Rattle.cv_syntax.specs.Small.{aim_at};
+
+    ghost entry_at = { aim_at };
+
+    fn read(alloc: Global, words: &[Placed]) -> Result<(Aim, &[Placed]), Stop> {
+        read_aim(alloc, words)
+    }
 }
 
 /// Whether a word is this name.
@@ -120,7 +128,7 @@ fn take_exactly<'a>(name: &str, words: &'a [Placed]) -> Result<&'a [Placed], Sto
 
 /// A field of a match and its value.
 #[tactic(auto, unfolding(crate::specs::Small::field_at))]
-fn read_field(alloc: Global, words: &[Placed]) -> Result<(Pair<cv_token::Text>, &[Placed]), Stop>
+fn read_field(alloc: Global, words: &[Placed]) -> Result<(Pair<Text>, &[Placed]), Stop>
     ensures value { Gives result (field_at words.now) }
     ensures shorter { IfOk result (λ p. length p.1.now < length words.now) }
 {
@@ -130,41 +138,14 @@ fn read_field(alloc: Global, words: &[Placed]) -> Result<(Pair<cv_token::Text>, 
     Ok((Pair { key, value }, rest))
 }
 
-/// Fields with commas between them.
-#[tactic(auto, unfolding(cv_readers::specs::Combining::sep))]
-fn read_field_row(
-    alloc: Global,
-    words: &[Placed],
-) -> Result<(Items<Pair<cv_token::Text>>, &[Placed]), Stop>
-    ensures value { Gives result (sep Comma field_at words.now) }
-    ensures shorter { IfOk result (λ p. length p.1.now < length words.now) }
-{
-    let (first, mut rest) = read_field(alloc, words)?;
-    let mut row = Items::new(alloc);
-    row.push(first)?;
-    while let Some(after) = skip_mark(Mark::Comma, rest) {
-        let (next, left) = read_field(alloc, after)?;
-        row.push(next)?;
-        rest = left;
-    }
-    Ok((row, rest))
-}
+impl Entry for Pair<Text> {
+    ghost use Rattle.cv_syntax.specs.Small.{field_at};
 
-/// Fields in braces, which open a level.
-#[tactic(auto, unfolding(cv_readers::specs::Combining::listed))]
-fn read_field_list(
-    alloc: Global,
-    words: &[Placed],
-) -> Result<(Items<Pair<cv_token::Text>>, &[Placed]), Stop>
-    ensures value { Gives result (listed CloseBrace field_at words.now) }
-    ensures shorter { IfOk result (λ p. length p.1.now < length words.now) }
-{
-    if let Some(rest) = skip_mark(Mark::CloseBrace, words) {
-        return Ok((Items::new(alloc), rest));
+    ghost entry_at = { field_at };
+
+    fn read(alloc: Global, words: &[Placed]) -> Result<(Pair<Text>, &[Placed]), Stop> {
+        read_field(alloc, words)
     }
-    let (row, rest) = read_field_row(alloc, words)?;
-    let rest = take_mark(Mark::CloseBrace, rest)?;
-    Ok((row, rest))
 }
 
 /// What a match looks for: a group and its fields.
@@ -176,7 +157,7 @@ fn read_index(alloc: Global, words: &[Placed], levels: u32) -> Result<(Match, &[
     let (group, rest) = take_text(alloc, words)?;
     let rest = take_mark(Mark::Comma, rest)?;
     let rest = open_mark(Mark::OpenBrace, rest, levels)?;
-    let (fields, rest) = read_field_list(alloc, rest)?;
+    let (fields, rest) = read_listed(alloc, Mark::CloseBrace, rest)?;
     Ok((Match { group, fields }, rest))
 }
 

@@ -5,8 +5,9 @@ ghost use Rattle.cv_readers.specs.Reading.{Gives, first_is};
 ghost use Rattle.cv_readers.specs.Combining.{many};
 ghost use Rattle.cv_syntax.specs.Whole.{most_levels, declare_at, join_at, port_at, named_at, source_at, statement_at, body_at, is_inside};
 
+use crate::entries::{read_listed, read_row};
 use crate::nested::read_literal;
-use crate::rows::{MOST_LEVELS, begins_name, read_aim_row, read_arg_list};
+use crate::rows::{MOST_LEVELS, begins_name};
 use crate::small::{read_kind, skip_reserved};
 use crate::tree::{Declare, Join, Source, Statement};
 use cv_lex::{Mark, Placed, Reserved};
@@ -24,7 +25,7 @@ fn read_declare(alloc: Global, name: Name, words: &[Placed]) -> Result<(Declare,
 {
     let (kind, rest) = read_kind(alloc, words)?;
     let rest = take_mark(Mark::OpenParen, rest)?;
-    let (args, rest) = read_arg_list(alloc, rest)?;
+    let (args, rest) = read_listed(alloc, Mark::CloseParen, rest)?;
     Ok((Declare { name, kind, args }, rest))
 }
 
@@ -40,7 +41,7 @@ fn read_join(
     ensures shorter { IfOk result (λ p. length p.1.now < length words.now) }
 {
     let rest = take_mark(Mark::Greater, words)?;
-    let (targets, rest) = read_aim_row(alloc, rest)?;
+    let (targets, rest) = read_row(alloc, Mark::Comma, rest)?;
     Ok((
         Join {
             at,

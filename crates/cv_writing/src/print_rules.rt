@@ -1,13 +1,14 @@
 //! Expressions printed as text.
 
 ghost use Rattle.std.specs.Prelude.{◌≡◌, [], ◌∷◌, ◌++◌, string_bytes, OnOk};
-ghost use Rattle.cv_lex.specs.declared.word.Mark.TheVariants.{Ampersand, Bar, CloseBrace, CloseBracket, Comma, OpenBrace, OpenBracket};
+ghost use Rattle.cv_lex.specs.declared.word.Mark.TheVariants.{Ampersand, Bar, CloseBrace, CloseBracket, OpenBrace, OpenBracket};
 ghost use Rattle.cv_readers.specs.Slots.{mark, opening, sep_slots, listed_slots};
 ghost use Rattle.cv_syntax.specs.declared.tree.Factor.TheVariants as factors;
 ghost use Rattle.cv_syntax.specs.Spelling.{in_level, field_slots, index_slots, group_slots, match_slots, factor_slots, terms_slots};
 ghost use Rattle.cv_writing.specs.Printing.{Adds};
 
 use crate::print_values::{print_name, print_text};
+use crate::rows::{Entry, print_row};
 use crate::writing::{push_mark, push_name};
 use cv_lex::Mark;
 use cv_syntax::{Factor, Match, Term, Terms};
@@ -23,19 +24,14 @@ fn print_field(out: &mut String, field: &Pair<Text>) -> Result<(), OutOfMemory>
     print_text(out, &field.value)
 }
 
-/// Fields with commas between them.
-fn print_fields(out: &mut String, fields: &Items<Pair<Text>>) -> Result<(), OutOfMemory>
-    ensures { OnOk result (Adds (string_bytes out.old) (string_bytes out.new) (sep_slots Comma field_slots fields.now)) }
-{
-    let Some((first, rest)) = fields.as_slice().split_first() else {
-        return Ok(());
-    };
-    print_field(out, first)?;
-    for field in rest {
-        push_mark(out, Mark::Comma)?;
-        print_field(out, field)?;
+impl Entry for Pair<Text> {
+    ghost use Rattle.cv_syntax.specs.Spelling.{field_slots};
+
+    ghost spell = { field_slots };
+
+    fn print(&self, out: &mut String) -> Result<(), OutOfMemory> {
+        print_field(out, self)
     }
-    Ok(())
 }
 
 /// Fields in braces.
@@ -44,7 +40,7 @@ fn print_braced(out: &mut String, fields: &Items<Pair<Text>>) -> Result<(), OutO
         (in_level (opening OpenBrace) (listed_slots CloseBrace field_slots fields.now))) }
 {
     push_mark(out, Mark::OpenBrace)?;
-    print_fields(out, fields)?;
+    print_row(out, Mark::Comma, fields)?;
     push_mark(out, Mark::CloseBrace)
 }
 

@@ -1,12 +1,11 @@
 //! Declarations and joins printed as text.
 
 ghost use Rattle.std.specs.Prelude.{◌≡◌, string_bytes, OnOk};
-ghost use Rattle.cv_lex.specs.declared.word.Mark.TheVariants.{Comma};
-ghost use Rattle.cv_readers.specs.Slots.{sep_slots};
 ghost use Rattle.cv_syntax.specs.Spelling.{kind_slots, declare_slots, source_slots, target_slots, aim_slots, join_slots, statement_slots};
 ghost use Rattle.cv_writing.specs.Printing.{Adds};
 
 use crate::print_values::{close_args, print_literal, print_name};
+use crate::rows::{Entry, print_row};
 use crate::writing::{push_mark, push_name, push_reserved};
 use cv_lex::{Mark, Reserved};
 use cv_syntax::{Aim, Declare, Join, KindName, Source, Statement, Target};
@@ -83,19 +82,14 @@ fn print_aim(out: &mut String, aim: &Aim) -> Result<(), OutOfMemory>
     print_target(out, &aim.target)
 }
 
-/// Targets with commas between them.
-fn print_aims(out: &mut String, aims: &Items<Aim>) -> Result<(), OutOfMemory>
-    ensures { OnOk result (Adds (string_bytes out.old) (string_bytes out.new) (sep_slots Comma aim_slots aims.now)) }
-{
-    let Some((first, rest)) = aims.as_slice().split_first() else {
-        return Ok(());
-    };
-    print_aim(out, first)?;
-    for aim in rest {
-        push_mark(out, Mark::Comma)?;
-        print_aim(out, aim)?;
+impl Entry for Aim {
+    ghost use Rattle.cv_syntax.specs.Spelling.{aim_slots};
+
+    ghost spell = { aim_slots };
+
+    fn print(&self, out: &mut String) -> Result<(), OutOfMemory> {
+        print_aim(out, self)
     }
-    Ok(())
 }
 
 /// A join.
@@ -104,7 +98,7 @@ fn print_join(out: &mut String, join: &Join) -> Result<(), OutOfMemory>
 {
     print_source(out, &join.source)?;
     push_mark(out, Mark::Greater)?;
-    print_aims(out, &join.targets)
+    print_row(out, Mark::Comma, &join.targets)
 }
 
 /// A declaration or a join.

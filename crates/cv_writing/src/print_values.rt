@@ -8,6 +8,7 @@ ghost use Rattle.cv_syntax.specs.declared.tree.Literal.TheVariants as literals;
 ghost use Rattle.cv_syntax.specs.Spelling.{name_slots, literal_slots, value_slots, arg_slots};
 ghost use Rattle.cv_writing.specs.Printing.{Adds, entry_of, pair_slots};
 
+use crate::rows::{Entry, print_row};
 use crate::writing::{push_fraction, push_int, push_mark, push_name, push_reserved, push_text};
 use cv_lex::{Mark, Reserved};
 use cv_readers::Name;
@@ -20,6 +21,16 @@ pub(crate) fn print_name(out: &mut String, name: &Name) -> Result<(), OutOfMemor
     ensures { OnOk result (Adds (string_bytes out.old) (string_bytes out.new) (name_slots name.now)) }
 {
     push_name(out, name.text.as_str())
+}
+
+impl Entry for Name {
+    ghost use Rattle.cv_syntax.specs.Spelling.{name_slots};
+
+    ghost spell = { name_slots };
+
+    fn print(&self, out: &mut String) -> Result<(), OutOfMemory> {
+        print_name(out, self)
+    }
 }
 
 /// A text.
@@ -127,25 +138,20 @@ fn print_arg(out: &mut String, arg: &Arg) -> Result<(), OutOfMemory>
     print_value(out, &arg.value)
 }
 
-/// Arguments with commas between them.
-fn print_args(out: &mut String, args: &Items<Arg>) -> Result<(), OutOfMemory>
-    ensures { OnOk result (Adds (string_bytes out.old) (string_bytes out.new) (sep_slots Comma arg_slots args.now)) }
-{
-    let Some((first, rest)) = args.as_slice().split_first() else {
-        return Ok(());
-    };
-    print_arg(out, first)?;
-    for arg in rest {
-        push_mark(out, Mark::Comma)?;
-        print_arg(out, arg)?;
+impl Entry for Arg {
+    ghost use Rattle.cv_syntax.specs.Spelling.{arg_slots};
+
+    ghost spell = { arg_slots };
+
+    fn print(&self, out: &mut String) -> Result<(), OutOfMemory> {
+        print_arg(out, self)
     }
-    Ok(())
 }
 
 /// Arguments, and the parenthesis behind them.
 pub(crate) fn close_args(out: &mut String, args: &Items<Arg>) -> Result<(), OutOfMemory>
     ensures { OnOk result (Adds (string_bytes out.old) (string_bytes out.new) (listed_slots CloseParen arg_slots args.now)) }
 {
-    print_args(out, args)?;
+    print_row(out, Mark::Comma, args)?;
     push_mark(out, Mark::CloseParen)
 }

@@ -1,8 +1,7 @@
 //! A script printed as text that is read as the same script.
 
 ghost use Rattle.std.specs.Prelude.{◌≡◌, string_bytes, OnOk, IfOk};
-ghost use Rattle.cv_lex.specs.declared.word.Mark.TheVariants.{Comma};
-ghost use Rattle.cv_readers.specs.Slots.{all_slots, sep_slots, listed_slots};
+ghost use Rattle.cv_readers.specs.Slots.{all_slots, listed_slots};
 ghost use Rattle.cv_syntax.specs.Spelling.{name_slots, statement_slots, component_slots, define_slots, rule_slots, apply_slots, item_slots, script_slots};
 ghost use Rattle.cv_writing.specs.Printing.{Adds, head_slots, printed};
 ghost use Rattle.cv_syntax.specs.Asides.{CanBeWritten, ReadsBack};
@@ -10,6 +9,7 @@ ghost use Rattle.cv_syntax.specs.Asides.{CanBeWritten, ReadsBack};
 use crate::print_rules::print_terms;
 use crate::print_statements::print_statement;
 use crate::print_values::{print_name, print_value};
+use crate::rows::print_row;
 use crate::writing::{push_mark, push_reserved};
 use cv_lex::{Mark, Reserved};
 use cv_readers::Name;
@@ -17,21 +17,6 @@ use cv_syntax::{Apply, Component, Define, Item, NamedRule, Script, Statement};
 use cv_token::{OutOfMemory, Text};
 use sqlite_items::Items;
 use std::alloc::Global;
-
-/// Names with commas between them.
-fn print_names(out: &mut String, names: &Items<Name>) -> Result<(), OutOfMemory>
-    ensures { OnOk result (Adds (string_bytes out.old) (string_bytes out.new) (sep_slots Comma name_slots names.now)) }
-{
-    let Some((first, rest)) = names.as_slice().split_first() else {
-        return Ok(());
-    };
-    print_name(out, first)?;
-    for name in rest {
-        push_mark(out, Mark::Comma)?;
-        print_name(out, name)?;
-    }
-    Ok(())
-}
 
 /// Statements, one behind another.
 fn print_statements(out: &mut String, statements: &Items<Statement>) -> Result<(), OutOfMemory>
@@ -47,7 +32,7 @@ fn print_statements(out: &mut String, statements: &Items<Statement>) -> Result<(
 fn close_names(out: &mut String, names: &Items<Name>, close: Mark) -> Result<(), OutOfMemory>
     ensures { OnOk result (Adds (string_bytes out.old) (string_bytes out.new) (listed_slots close name_slots names.now)) }
 {
-    print_names(out, names)?;
+    print_row(out, Mark::Comma, names)?;
     push_mark(out, close)
 }
 
@@ -97,7 +82,7 @@ fn print_apply(out: &mut String, apply: &Apply) -> Result<(), OutOfMemory>
     ensures { OnOk result (Adds (string_bytes out.old) (string_bytes out.new) (apply_slots apply.now)) }
 {
     push_reserved(out, Reserved::Apply)?;
-    print_names(out, &apply.names)?;
+    print_row(out, Mark::Comma, &apply.names)?;
     push_mark(out, Mark::Colon)?;
     print_terms(out, &apply.terms)
 }
