@@ -22,7 +22,7 @@ use crate::outlook::{Outlook, Sight};
 use crate::passing::pass;
 use crate::travel::{cancel_all, rewind_all, rewind_all_towards};
 use cv_behave::{Behave, Effect};
-use cv_kinds::{ActorSpec, Join, Kind, Network, actions};
+use cv_kinds::{ActorSpec, Connection, Kind, Network, actions};
 use cv_protocol::{ActorState, Hints, Inlet, Need, StateParts, copy_inlets, copy_outs};
 use cv_queue::{InPort, OutPort};
 use cv_token::{ActorId, ConnId, Items, OutOfMemory, Text, copy_items};
@@ -127,7 +127,7 @@ impl Live {
         alloc: Global,
         id: ActorId,
         spec: &ActorSpec,
-        joins: &[Join],
+        joins: &[Connection],
         now: u64,
     ) -> Result<Live, OutOfMemory>
         requires few { length joins.now ≤ 4096 }

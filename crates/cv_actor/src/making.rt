@@ -3,7 +3,7 @@
 ghost use Rattle.std.specs.Prelude.{◌≡◌, ◌≤◌, length, IfOk};
 ghost use Rattle.cv_protocol.specs.Travel.{inlet_of, inlets_of, readers_of, outs_of};
 
-use cv_kinds::Join;
+use cv_kinds::Connection;
 use cv_protocol::Inlet;
 use cv_queue::{InPort, OutPort, Readers, Subscription};
 use cv_token::{ActorId, ConnId, OutOfMemory};
@@ -16,7 +16,7 @@ const QUEUE_LENGTH: u16 = 4;
 pub(crate) fn new_inlets(
     alloc: Global,
     id: ActorId,
-    joins: &[Join],
+    joins: &[Connection],
     count: u8,
 ) -> Result<Vec<Option<Inlet>>, OutOfMemory>
     requires { length joins.now ≤ 4096 }
@@ -33,7 +33,7 @@ pub(crate) fn new_inlets(
 fn new_inlet(
     alloc: Global,
     id: ActorId,
-    joins: &[Join],
+    joins: &[Connection],
     port: u8,
 ) -> Result<Option<Inlet>, OutOfMemory>
     requires { length joins.now ≤ 4096 }
@@ -61,7 +61,7 @@ fn new_inlet(
 pub(crate) fn new_outs(
     alloc: Global,
     id: ActorId,
-    joins: &[Join],
+    joins: &[Connection],
     count: u8,
 ) -> Result<Vec<OutPort>, OutOfMemory>
     requires { length joins.now ≤ 4096 }
@@ -76,7 +76,12 @@ pub(crate) fn new_outs(
 }
 
 /// The readers of an outport of the actor, by rising connection.
-fn new_readers(alloc: Global, id: ActorId, joins: &[Join], port: u8) -> Result<Readers, OutOfMemory>
+fn new_readers(
+    alloc: Global,
+    id: ActorId,
+    joins: &[Connection],
+    port: u8,
+) -> Result<Readers, OutOfMemory>
     requires { length joins.now ≤ 4096 }
     ensures { IfOk result (λ readers. readers ≡ readers_of id.app 0 joins.now id.actor port) }
 {

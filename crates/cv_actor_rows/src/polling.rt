@@ -3,7 +3,7 @@
 use cv_actor::{Act, Live, Polled};
 use cv_behave::Behave;
 use cv_flow::FlowKind;
-use cv_kinds::{ActorSpec, Join, Kind};
+use cv_kinds::{ActorSpec, Connection, Kind};
 use cv_protocol::Need;
 use cv_queue::Offered;
 use cv_token::{ActorId, AppId, Items, Text, Token};
@@ -19,7 +19,7 @@ fn started(
     alloc: Global,
     kind: FlowKind,
     args: &[i64],
-    joins: &[Join],
+    joins: &[Connection],
 ) -> Result<Live, Fail> {
     let mut items = Items::new(alloc);
     for arg in args {
@@ -59,20 +59,20 @@ fn written(live: &Live) -> Option<u64> {
     Some(live.out(0)?.written())
 }
 
-const JOINED: [Join; 3] = [
-    Join {
+const JOINED: [Connection; 3] = [
+    Connection {
         from: 1,
         out: 0,
         to: 0,
         inp: 0,
     },
-    Join {
+    Connection {
         from: 2,
         out: 0,
         to: 0,
         inp: 1,
     },
-    Join {
+    Connection {
         from: 0,
         out: 0,
         to: 3,

@@ -7,7 +7,7 @@ use Rattle.cv_protocol.specs.declared.event.Event.TheVariants as event
 use Rattle.cv_protocol.specs.declared.event.Sent.TheVariants as sent
 use Rattle.cv_protocol.specs.NodeState.{NodeState}
 use Rattle.cv_protocol.specs.Journals.{replay}
-use Rattle.cv_node.specs.Journalled.{IsReplay, Journalled, Steps, entry_of_row}
+use Rattle.cv_node.specs.Journalled.{IsReplay, Journalled, MakesStep, entry_of_row}
 use Rattle.cv_alone.specs.Going.{GoesOn, all_may, is_own, is_prompt}
 use Rattle.cv_alone.specs.Resting.{IsAtRest, IsPatient}
 use Rattle.cv_alone.specs.Turns.{StaysPatient}
@@ -100,7 +100,7 @@ alone e x [] after is = refl
 alone e x (m ∷ []) after is = absurd (cc)
 alone e x (m ∷ n ∷ middle) after is = absurd (cc)
 
-pub tick_patient : (actors connections : ℕ) (a b : Journalled) (moment : ℕ) → IsReplay a.base a.state a.entries → Steps a (event.Tick moment) sent.Nothing b → IsAtRest a.state actors connections → StaysPatient actors connections a b
+pub tick_patient : (actors connections : ℕ) (a b : Journalled) (moment : ℕ) → IsReplay a.base a.state a.entries → MakesStep a (event.Tick moment) sent.Nothing b → IsAtRest a.state actors connections → StaysPatient actors connections a b
 tick_patient actors connections a b moment kept steps rest patient before after stamp now is =
     elim (parted a.entries (entry_of_row a.state (event.Tick moment) ∷ []) before after (record { stamp = stamp; event = event.Tick now }) (sym steps.appends ∙ is)) [
       | inl first ↦ (let s = patient before first.0 stamp now first.1 in (s.0, ap (λ (base : NodeState). replay base before) steps.based ∙ s.1, s.2))

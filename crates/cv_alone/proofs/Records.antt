@@ -11,8 +11,8 @@ use Rattle.cv_protocol.specs.NodeState.{NodeState, opening}
 use Rattle.cv_protocol.specs.Journals.{replay, IsRecordOf}
 use Rattle.cv_node.specs.Journalled.{Journalled, IsReplay}
 use Rattle.cv_merge.specs.Lanes.{journal_at}
-use Rattle.cv_alone.specs.declared.alone.Stop.{Stop}
-use Rattle.cv_alone.specs.declared.alone.Stop.TheVariants.{Spent, Quiescent}
+use Rattle.cv_alone.specs.declared.alone.RunEnd.{RunEnd}
+use Rattle.cv_alone.specs.declared.alone.RunEnd.TheVariants.{Spent, Quiescent}
 use Rattle.cv_alone.specs.Going.{EndsInFiring, GoesOn, is_own}
 use Rattle.cv_alone.specs.Recorded.{EndIsRight, IsOneNodeRun, first_entry, first_spec, only_first}
 use Rattle.cv_alone.specs.Resting.{IsPatient, Quiet}
@@ -20,23 +20,23 @@ use Rattle.cv_alone.specs.Turns.{StaysPatient}
 use Rattle.cv_alone.proofs.Patience.{deployed_patient}
 
 -- the end of a run, whichever it is
-pub record Ended (net : Net) (most : ℕ) (stop : Stop) (old new : Journalled) : Type 0 where
+pub record Ended (net : Net) (most : ℕ) (stop : RunEnd) (old new : Journalled) : Type 0 where
   pub fired : ℕ
   pub goes_on : GoesOn is_own old new fired
   pub patient : StaysPatient (length net.actors) (length net.connections) old new
   pub right : EndIsRight net most stop fired new.state
 
-abbrev pub stopped : Stop → Result Stop AllocError
+abbrev pub stopped : RunEnd → Result RunEnd AllocError
 stopped s = Ok s
 
-abbrev pub Stopped : Stop → Stop → Type 0
+abbrev pub Stopped : RunEnd → RunEnd → Type 0
 Stopped stop other = stopped stop ≡ stopped other
 
 sized_patience : (net : Net) (actors connections : ℕ) (old new : Journalled) → actors ≡ length net.actors → connections ≡ length net.connections → StaysPatient actors connections old new → StaysPatient (length net.actors) (length net.connections) old new
 sized_patience net actors connections old new a c patient =
     subst (λ (n : ℕ). StaysPatient (length net.actors) n old new) c (subst (λ (n : ℕ). StaysPatient n connections old new) a patient)
 
-pub ended : (net : Net) (most actors connections : ℕ) (stop : Stop) (old new : Journalled) → actors ≡ length net.actors → connections ≡ length net.connections → (Stopped stop Spent → GoesOn is_own old new most) → (Stopped stop Quiescent → (fired : ℕ) × (fired < most) × GoesOn is_own old new fired) → (Stopped stop Quiescent → Quiet new.state actors connections) → StaysPatient actors connections old new → Ended net most stop old new
+pub ended : (net : Net) (most actors connections : ℕ) (stop : RunEnd) (old new : Journalled) → actors ≡ length net.actors → connections ≡ length net.connections → (Stopped stop Spent → GoesOn is_own old new most) → (Stopped stop Quiescent → (fired : ℕ) × (fired < most) × GoesOn is_own old new fired) → (Stopped stop Quiescent → Quiet new.state actors connections) → StaysPatient actors connections old new → Ended net most stop old new
 ended net most actors connections Spent old new a c spent quiescent quiet patient = record { fired = most; goes_on = spent refl; patient = sized_patience net actors connections old new a c patient; right = refl }
 ended net most actors connections Quiescent old new a c spent quiescent quiet patient =
     let q = quiescent refl in
@@ -47,7 +47,7 @@ same_parts : (f g : ℕ → List Entry) (m : Record) → ((i : ℕ) → f i ≡ 
 same_parts f g m same is = record { parts = λ i. is.parts i ∙ same i; next_is_least = is.next_is_least }
 
 -- what the journal and the record say of the run
-pub recorded : (net : Net) (most : ℕ) (stop : Stop) (m : Record) (first now : Journalled) (j : Journal) → first.entries ≡ first_entry net ∷ [] → first.base ≡ opening first_spec → Ended net most stop first now → j.entries.items ≡ now.entries → j.spec ≡ now.base.spec → IsReplay now.base now.state now.entries → m.specs ≡ j.spec ∷ [] → IsRecordOf (journal_at (j ∷ [])) m.entries → (Stopped stop Spent → 0 < most → EndsInFiring now.entries) → IsOneNodeRun net most stop m
+pub recorded : (net : Net) (most : ℕ) (stop : RunEnd) (m : Record) (first now : Journalled) (j : Journal) → first.entries ≡ first_entry net ∷ [] → first.base ≡ opening first_spec → Ended net most stop first now → j.entries.items ≡ now.entries → j.spec ≡ now.base.spec → IsReplay now.base now.state now.entries → m.specs ≡ j.spec ∷ [] → IsRecordOf (journal_at (j ∷ [])) m.entries → (Stopped stop Spent → 0 < most → EndsInFiring now.entries) → IsOneNodeRun net most stop m
 recorded net most stop m first now j begins based e items spec kept specs is spends =
     let base : now.base ≡ opening first_spec = e.goes_on.based ∙ based in
     let own_spec : j.spec ≡ first_spec = spec ∙ ap (λ (s : NodeState). s.spec) base in

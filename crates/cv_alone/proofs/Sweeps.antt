@@ -14,7 +14,7 @@ use Rattle.cv_protocol.specs.NodeRow.{row}
 use Rattle.cv_actor.specs.declared.act.Polled.{Polled}
 use Rattle.cv_actor.specs.declared.act.Polled.TheVariants as polled
 use Rattle.cv_node.specs.Counts.{firing_count, is_firing, journal_length}
-use Rattle.cv_node.specs.Journalled.{Journalled, Steps, entry_of_row}
+use Rattle.cv_node.specs.Journalled.{Journalled, MakesStep, entry_of_row}
 use Rattle.cv_node.specs.Polls.{HasPolled, Waits}
 use Rattle.cv_alone.specs.declared.sweep.Swept.{Swept}
 use Rattle.cv_alone.specs.Going.{EndsInFiring, GoesOn, Polls, all_may, is_prompt, swept_by}
@@ -54,7 +54,7 @@ goes_on_step may a b c n m first second = record {
 abbrev counts : Event → ℕ
 counts e = if is_firing e then 1 else 0
 
-pub goes_on_entry : (may : Event → Bool) (a b : Journalled) (e : Event) (s : Sent) → Steps a e s b → may e ≡ true → length a.entries < journal_length → GoesOn may a b (counts e)
+pub goes_on_entry : (may : Event → Bool) (a b : Journalled) (e : Event) (s : Sent) → MakesStep a e s b → may e ≡ true → length a.entries < journal_length → GoesOn may a b (counts e)
 goes_on_entry may a b e s steps own few = record {
   more = entry_of_row a.state e ∷ [];
   appends = steps.appends;
@@ -64,7 +64,7 @@ goes_on_entry may a b e s steps own few = record {
   few = λ h. omega (arith, few, ap length steps.appends, length-append a.entries (entry_of_row a.state e ∷ []));
 }
 
-pub longer_by_entry : (a b : Journalled) (e : Event) (s : Sent) → Steps a e s b → length b.entries ≡ length a.entries + 1
+pub longer_by_entry : (a b : Journalled) (e : Event) (s : Sent) → MakesStep a e s b → length b.entries ≡ length a.entries + 1
 longer_by_entry a b e s steps =
     omega (arith, ap length steps.appends, length-append a.entries (entry_of_row a.state e ∷ []))
 
@@ -85,7 +85,7 @@ passes_first start = record {
   more = λ h. absurd (cc);
 }
 
-passes_on : (start now next : Journalled) (passed : Bool) (place : ℕ) → PassesSoFar start now passed place → Steps now (event.Pass (conn_id place)) sent.Nothing next → length now.entries < journal_length → PassesSoFar start next true (place + 1)
+passes_on : (start now next : Journalled) (passed : Bool) (place : ℕ) → PassesSoFar start now passed place → MakesStep now (event.Pass (conn_id place)) sent.Nothing next → length now.entries < journal_length → PassesSoFar start next true (place + 1)
 passes_on start now next passed place before steps few = record {
   goes_on = goes_on_step is_prompt start now next 0 0 before.goes_on (goes_on_entry is_prompt now next (event.Pass (conn_id place)) sent.Nothing steps refl few);
   none = λ h. absurd (cc);
@@ -94,7 +94,7 @@ passes_on start now next passed place before steps few = record {
 
 abbrev PassOutcome : Journalled → ℕ → Bool → Journalled → Type 0
 PassOutcome now place moved next =
-    MatchBool moved (Steps now (event.Pass (conn_id place)) sent.Nothing next) ((next ≡ now) × (row now.state (event.Pass (conn_id place)) ≡ None))
+    MatchBool moved (MakesStep now (event.Pass (conn_id place)) sent.Nothing next) ((next ≡ now) × (row now.state (event.Pass (conn_id place)) ≡ None))
 
 pub passes_next : (start now next : Journalled) (passed moved : Bool) (place : ℕ) → PassesSoFar start now passed place → PassOutcome now place moved next → length now.entries < journal_length → PassesSoFar start next (passed || moved) (place + 1)
 passes_next start now next true true place before steps few = passes_on start now next true place before steps few
@@ -148,11 +148,11 @@ swept_first start most = record {
   ends = λ some spent. absurd (omega (arith, some, spent));
 }
 
-ends_in_entry : (now next : Journalled) (e : Event) → Steps now e sent.Nothing next → is_firing e ≡ true → EndsInFiring next.entries
+ends_in_entry : (now next : Journalled) (e : Event) → MakesStep now e sent.Nothing next → is_firing e ≡ true → EndsInFiring next.entries
 ends_in_entry now next e steps fires = record { before = now.entries; last = entry_of_row now.state e; is = steps.appends; fires = fires }
 
 -- a poll that changes something
-changes : (start now next : Journalled) (was : Swept) (most place : ℕ) (e : Event) (count : ℕ) → SweptSoFar start now was most place → Steps now e sent.Nothing next → is_prompt e ≡ true → counts e ≡ count → was.fired + count ≤ most → (most ≤ was.fired + count → is_firing e ≡ true) → length now.entries < journal_length → SweptSoFar start next (record was { changed = true; fired = was.fired + count }) most (place + 1)
+changes : (start now next : Journalled) (was : Swept) (most place : ℕ) (e : Event) (count : ℕ) → SweptSoFar start now was most place → MakesStep now e sent.Nothing next → is_prompt e ≡ true → counts e ≡ count → was.fired + count ≤ most → (most ≤ was.fired + count → is_firing e ≡ true) → length now.entries < journal_length → SweptSoFar start next (record was { changed = true; fired = was.fired + count }) most (place + 1)
 changes start now next was most place e count before steps own is low fires few = record {
   within = low;
   goes_on = goes_on_step is_prompt start now next was.fired count before.goes_on (subst (GoesOn is_prompt now next) is (goes_on_entry is_prompt now next e sent.Nothing steps own few));

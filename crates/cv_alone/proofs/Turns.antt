@@ -5,7 +5,7 @@ use Rattle.cv_protocol.specs.declared.event.Sent.TheVariants as sent
 use Rattle.cv_protocol.specs.NodeState.{NodeState}
 use Rattle.cv_protocol.specs.NodeRow.{row}
 use Rattle.cv_node.specs.Counts.{journal_length}
-use Rattle.cv_node.specs.Journalled.{IsReplay, Journalled, Steps}
+use Rattle.cv_node.specs.Journalled.{IsReplay, Journalled, MakesStep}
 use Rattle.cv_alone.specs.Going.{EndsInFiring, GoesOn, is_own, is_prompt}
 use Rattle.cv_alone.specs.Resting.{AllWait, IsAtRest, Quiet, conn_id}
 use Rattle.cv_alone.specs.Turns.{Turns}
@@ -32,7 +32,7 @@ changes a b c actors connections most fired passes polls few longer ends =
     (few, goes_own a c fired all, longer, prompt_patient actors connections a c fired all, ends)
 
 -- time goes on
-pub ticks : (a b : Journalled) (actors connections most moment : ℕ) → 0 < most → Steps a (event.Tick moment) sent.Nothing b → length a.entries < journal_length → IsReplay a.base a.state a.entries → IsAtRest a.state actors connections → Turns a actors connections most (Some 0) b
+pub ticks : (a b : Journalled) (actors connections most moment : ℕ) → 0 < most → MakesStep a (event.Tick moment) sent.Nothing b → length a.entries < journal_length → IsReplay a.base a.state a.entries → IsAtRest a.state actors connections → Turns a actors connections most (Some 0) b
 ticks a b actors connections most moment some steps few kept rest = (
   omega arith,
   goes_on_entry is_own a b (event.Tick moment) sent.Nothing steps refl few,

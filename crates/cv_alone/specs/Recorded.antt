@@ -7,8 +7,8 @@ use Rattle.cv_protocol.specs.declared.event.Event.TheVariants as event
 use Rattle.cv_protocol.specs.declared.event.Record.{Record}
 use Rattle.cv_protocol.specs.NodeState.{NodeState, opening}
 use Rattle.cv_protocol.specs.Journals.{replay, IsRecordOf}
-use Rattle.cv_alone.specs.declared.alone.Stop.{Stop}
-use Rattle.cv_alone.specs.declared.alone.Stop.TheVariants.{Spent, Quiescent}
+use Rattle.cv_alone.specs.declared.alone.RunEnd.{RunEnd}
+use Rattle.cv_alone.specs.declared.alone.RunEnd.TheVariants.{Spent, Quiescent}
 use Rattle.cv_node.specs.Counts.{firing_count}
 use Rattle.cv_alone.specs.Going.{EndsInFiring, are_own}
 use Rattle.cv_alone.specs.Resting.{IsPatient, Quiet}
@@ -26,7 +26,7 @@ abbrev pub only_first : List Entry → ℕ → List Entry
 only_first entries i = if 1 == i then entries else []
 
 -- spent comes exactly after the firings that were allowed, quiescent only after fewer and where nothing can happen
-abbrev pub EndIsRight : Net → ℕ → Stop → ℕ → NodeState → Type 0
+abbrev pub EndIsRight : Net → ℕ → RunEnd → ℕ → NodeState → Type 0
 EndIsRight net most Spent firings state = firings ≡ most
 EndIsRight net most Quiescent firings state =
     (firings < most) × Quiet state (length net.actors) (length net.connections)
@@ -34,7 +34,7 @@ EndIsRight net most Quiescent firings state =
 -- a record of node 1 alone: its entries are a local run from the opening state, which begins with the deployment of the
 -- network and goes on by the node's own events; time goes on only where nothing else can; the end of the run is right; and the
 -- record of a spent run ends with the firing that spent it
-pub record IsOneNodeRun (net : Net) (most : ℕ) (stop : Stop) (m : Record) : Type 0 where
+pub record IsOneNodeRun (net : Net) (most : ℕ) (stop : RunEnd) (m : Record) : Type 0 where
   pub more : List Entry
   pub state : NodeState
   pub one_spec : m.specs ≡ first_spec ∷ []

@@ -20,7 +20,7 @@ use std::alloc::{AllocError, Global};
 
 /// How a run ends.
 #[derive(Debug, Clone, Copy, PartialEq, Eq)]
-pub enum Stop {
+pub enum RunEnd {
     /// As many firings were made as were allowed.
     Spent,
     /// Nothing can fire and no token can move.
@@ -28,11 +28,11 @@ pub enum Stop {
 }
 
 /// Runs a network on node 1, with so many firings at most: how the run stopped, and its record.
-pub fn run_alone(alloc: Global, net: Network, most: u32) -> Result<(Stop, Record), OutOfMemory>
+pub fn run_alone(alloc: Global, net: Network, most: u32) -> Result<(RunEnd, Record), OutOfMemory>
     ensures { IfOk result (λ run. IsOneNodeRun net most run.0 run.1) }
 {
     let (actors, connections) = sizes(&net);
-    let mut node = deployed(alloc, net)?;
+    let mut node = start_node(alloc, net)?;
     let stop = go_on(&mut node, alloc, actors, connections, most)?;
     let mut journals = Vec::new(alloc);
     journals.push(node.into_journal())?;
@@ -51,7 +51,7 @@ fn sizes(net: &Network) -> (u16, u16)
 }
 
 /// A node with the network's one deployment.
-fn deployed(alloc: Global, net: Network) -> Result<Node, OutOfMemory>
+fn start_node(alloc: Global, net: Network) -> Result<Node, OutOfMemory>
     ensures entries { IfOk result (λ node. node.entries ≡ first_entry net ∷ []) }
     ensures base { IfOk result (λ node. node.base ≡ opening first_spec) }
 {
@@ -87,22 +87,22 @@ fn go_on(
     actors: u16,
     connections: u16,
     most: u32,
-) -> Result<Stop, OutOfMemory>
+) -> Result<RunEnd, OutOfMemory>
     requires few { length node.old.entries ≤ journal_length }
-    ensures spent { result ≡ Ok Stop.Spent → GoesOn is_own node.old node.new most }
-    ensures quiescent { result ≡ Ok Stop.Quiescent → (fired : ℕ) × (fired < most) × GoesOn is_own node.old node.new fired }
-    ensures quiet { result ≡ Ok Stop.Quiescent → Quiet node.new.state actors connections }
+    ensures spent { result ≡ Ok RunEnd.Spent → GoesOn is_own node.old node.new most }
+    ensures quiescent { result ≡ Ok RunEnd.Quiescent → (fired : ℕ) × (fired < most) × GoesOn is_own node.old node.new fired }
+    ensures quiet { result ≡ Ok RunEnd.Quiescent → Quiet node.new.state actors connections }
     ensures patient { OnOk result (StaysPatient actors connections node.old node.new) }
-    ensures ends { result ≡ Ok Stop.Spent → 0 < most → EndsInFiring node.new.entries }
+    ensures ends { result ≡ Ok RunEnd.Spent → 0 < most → EndsInFiring node.new.entries }
 {
     let mut left = most;
     while left > 0 {
         let Some(fired) = turn(node, alloc, actors, connections, left)? else {
-            return Ok(Stop::Quiescent);
+            return Ok(RunEnd::Quiescent);
         };
         left -= fired;
     }
-    Ok(Stop::Spent)
+    Ok(RunEnd::Spent)
 }
 
 /// Passes a token over each connection where one can pass, and polls each actor once; where nothing came of it, time goes on to the

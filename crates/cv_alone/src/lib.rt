@@ -4,4 +4,4 @@
 mod alone;
 mod sweep;
 
-pub use alone::{Stop, run_alone};
+pub use alone::{RunEnd, run_alone};

@@ -5,7 +5,7 @@ ghost use Rattle.cv_protocol.specs.declared.event.Event.TheVariants as event;
 ghost use Rattle.cv_protocol.specs.declared.event.Sent.TheVariants as sent;
 ghost use Rattle.cv_protocol.specs.NodeRow.{row};
 ghost use Rattle.cv_node.specs.Counts.{journal_length};
-ghost use Rattle.cv_node.specs.Journalled.{IsReplay, Steps};
+ghost use Rattle.cv_node.specs.Journalled.{IsReplay, MakesStep};
 ghost use Rattle.cv_node.specs.Polls.{HasPolled};
 ghost use Rattle.cv_alone.specs.Going.{EndsInFiring, GoesOn, Polls, is_prompt};
 ghost use Rattle.cv_alone.specs.Resting.{AllWait, actor_id, conn_id, earlier, until_from, until_in};
@@ -42,7 +42,7 @@ fn check_room(node: &Node) -> Result<(), OutOfMemory>
 
 /// Passes a token over the connection, where one can pass; false where none can, and then nothing changed.
 pub(crate) fn pass(node: &mut Node, alloc: Global, place: u16) -> Result<bool, OutOfMemory>
-    ensures passed { IfOk result (λ passed. MatchBool passed (Steps node.old (event.Pass (conn_id place)) sent.Nothing node.new) ((node.new ≡ node.old) × (row node.old.state (event.Pass (conn_id place)) ≡ None))) }
+    ensures passed { IfOk result (λ passed. MatchBool passed (MakesStep node.old (event.Pass (conn_id place)) sent.Nothing node.new) ((node.new ≡ node.old) × (row node.old.state (event.Pass (conn_id place)) ≡ None))) }
     ensures few { OnOk result (length node.old.entries < journal_length) }
 {
     check_room(node)?;
@@ -155,7 +155,7 @@ pub(crate) fn poll_all(
 
 /// Lets time go on to that moment.
 pub(crate) fn tick(node: &mut Node, alloc: Global, moment: u64) -> Result<(), OutOfMemory>
-    ensures ticked { OnOk result (Steps node.old (event.Tick moment) sent.Nothing node.new) }
+    ensures ticked { OnOk result (MakesStep node.old (event.Tick moment) sent.Nothing node.new) }
     ensures few { OnOk result (length node.old.entries < journal_length) }
     ensures replays { IsReplay node.old.base node.old.state node.old.entries }
 {

@@ -17,11 +17,11 @@ given_counts (Some t ∷ out) zero = refl
 given_counts (None ∷ out) (suc port) = given_counts out port
 given_counts (Some t ∷ out) (suc port) = given_counts out port
 
-abbrev Gives : ℕ → List ℕ → ℕ → List (Option Token) → Type 0
-Gives places counts port out = (length out ≡ places) × (length (given_at out port) ≡ count_at port counts)
+abbrev HasCounts : ℕ → List ℕ → ℕ → List (Option Token) → Type 0
+HasCounts places counts port out = (length out ≡ places) × (length (given_at out port) ≡ count_at port counts)
 
 -- where the counts are those of the action
-pub gives : (out : List (Option Token)) (port : ℕ) → Gives (length out) (counts_of out) port out
+pub gives : (out : List (Option Token)) (port : ℕ) → HasCounts (length out) (counts_of out) port out
 gives out port = (refl, given_counts out port)
 
 -- of one action

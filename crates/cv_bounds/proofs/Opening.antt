@@ -7,7 +7,7 @@ use Rattle.cv_token.specs.declared.identifiers.AppId.{AppId}
 use Rattle.cv_table.specs.Order.{actor_cmp, same_actor}
 use Rattle.cv_table.proofs.Views.{get_inserted}
 use Rattle.cv_kinds.specs.declared.network.ActorSpec.{ActorSpec}
-use Rattle.cv_kinds.specs.declared.network.Join.{Join}
+use Rattle.cv_kinds.specs.declared.network.Connection.{Connection}
 use Rattle.cv_kinds.specs.KindRow.{row_of}
 use Rattle.cv_protocol.specs.declared.moving.Location.{Location}
 use Rattle.cv_protocol.specs.declared.state.Inlet.{Inlet}
@@ -26,21 +26,21 @@ inlet_if : (b : Bool) (i : Inlet) (later : Option Inlet) → InsAreFew 0 (Some i
 inlet_if true i later one few = one
 inlet_if false i later one few = few
 
-new_inlet : (app : AppId) (place : ℕ) (joins : List Join) (actor port : ℕ) → InsAreFew 0 (inlet_of app place joins actor port ∷ [])
+new_inlet : (app : AppId) (place : ℕ) (joins : List Connection) (actor port : ℕ) → InsAreFew 0 (inlet_of app place joins actor port ∷ [])
 new_inlet app place [] actor port = tt
 new_inlet app place (j ∷ joins) actor port =
     inlet_if ((j.to == actor) && (j.inp == port)) _ (inlet_of app (suc place) joins actor port) (omega arith, tt) (new_inlet app (suc place) joins actor port)
 
-new_inlets : (app : AppId) (joins : List Join) (actor port count : ℕ) → InsAreFew 0 (inlets_of app joins actor port count)
+new_inlets : (app : AppId) (joins : List Connection) (actor port count : ℕ) → InsAreFew 0 (inlets_of app joins actor port count)
 new_inlets app joins actor port zero = tt
 new_inlets app joins actor port (suc count) =
     first_inlet (inlet_of app 0 joins actor port) (inlets_of app joins actor (suc port) count) (new_inlet app 0 joins actor port) (new_inlets app joins actor (suc port) count)
 
-new_outs : (app : AppId) (joins : List Join) (actor port count : ℕ) → OutsAreFew 0 (outs_of app joins actor port count)
+new_outs : (app : AppId) (joins : List Connection) (actor port count : ℕ) → OutsAreFew 0 (outs_of app joins actor port count)
 new_outs app joins actor port zero = tt
 new_outs app joins actor port (suc count) = (omega arith, new_outs app joins actor (suc port) count)
 
-new_few : (app : AppId) (joins : List Join) (actor : ℕ) (spec : ActorSpec) → LiveIsFew 0 (new_live app joins actor spec 0)
+new_few : (app : AppId) (joins : List Connection) (actor : ℕ) (spec : ActorSpec) → LiveIsFew 0 (new_live app joins actor spec 0)
 new_few app joins actor spec = record {
   attempt = omega arith;
   ins = new_inlets app joins actor 0 (row_of spec.kind).inports;
@@ -60,7 +60,7 @@ put_few true m l all new a k is = by_same (same_actor a l.actor.id) (sym (get_in
     by_same true e = subst (LiveIsFew 0) (same_Some l k e) new
     by_same false e = all a k e
 
-placed_few : (app : AppId) (joins : List Join) (home actor : ℕ) (specs : List ActorSpec) (at : List ℕ) (m : map.FinMap actor_cmp LiveState) → AllFew m → AllFew (all_placed app joins home actor specs at m)
+placed_few : (app : AppId) (joins : List Connection) (home actor : ℕ) (specs : List ActorSpec) (at : List ℕ) (m : map.FinMap actor_cmp LiveState) → AllFew m → AllFew (all_placed app joins home actor specs at m)
 placed_few app joins home actor [] at m all = all
 placed_few app joins home actor (spec ∷ specs) [] m all = all
 placed_few app joins home actor (spec ∷ specs) (node ∷ at) m all =

@@ -21,7 +21,7 @@ use Rattle.cv_flow.specs.Values.{milliseconds}
 use Rattle.cv_kinds.specs.declared.kind.Kind.{Kind}
 use Rattle.cv_kinds.specs.declared.kind.Kind.TheVariants as kind
 use Rattle.cv_kinds.specs.declared.network.ActorSpec.{ActorSpec}
-use Rattle.cv_kinds.specs.declared.network.Join.{Join}
+use Rattle.cv_kinds.specs.declared.network.Connection.{Connection}
 use Rattle.cv_kinds.specs.KindRow.{row_of}
 use Rattle.cv_kinds.specs.Sorts.{are_args, are_arguments, is_within, longest}
 use Rattle.cv_kinds.specs.Table.{flow_line, line_of}
@@ -59,7 +59,7 @@ pause_short (kind.Calc k) args fit = omega arith
 
 -- 2. Actors at their start
 
-new_brief : (app : AppId) (joins : List Join) (actor : ℕ) (spec : ActorSpec) → IsSpec spec → WaitsBriefly 0 (new_live app joins actor spec 0)
+new_brief : (app : AppId) (joins : List Connection) (actor : ℕ) (spec : ActorSpec) → IsSpec spec → WaitsBriefly 0 (new_live app joins actor spec 0)
 new_brief app joins actor spec is =
     let short = pause_short spec.kind spec.args is.args in
     record { due = omega (arith, short); pause = short }
@@ -79,7 +79,7 @@ put_brief true m l all new a k is =
     by_same true e = subst (WaitsBriefly 0) (same_Some l k e) new
     by_same false e = all a k e
 
-placed_brief : (app : AppId) (joins : List Join) (home actor : ℕ) (specs : List ActorSpec) (at : List ℕ) (m : map.FinMap actor_cmp LiveState) → All IsSpec specs → AllBrief m → AllBrief (all_placed app joins home actor specs at m)
+placed_brief : (app : AppId) (joins : List Connection) (home actor : ℕ) (specs : List ActorSpec) (at : List ℕ) (m : map.FinMap actor_cmp LiveState) → All IsSpec specs → AllBrief m → AllBrief (all_placed app joins home actor specs at m)
 placed_brief app joins home actor [] at m fit all = all
 placed_brief app joins home actor (spec ∷ specs) [] m fit all = all
 placed_brief app joins home actor (spec ∷ specs) (node ∷ at) m fit all =

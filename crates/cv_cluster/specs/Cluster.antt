@@ -13,8 +13,8 @@ use Rattle.cv_node.specs.Journalled.{Journalled, journalled_code, IsReplay}
 use Rattle.cv_link.specs.declared.items.Item.{Item}
 use Rattle.cv_link.specs.contracts.items.Item as item
 use Rattle.cv_merge.specs.Lanes.{Ascends}
-use Rattle.cv_alone.specs.declared.alone.Stop.{Stop}
-use Rattle.cv_alone.specs.declared.alone.Stop.TheVariants.{Spent, Quiescent}
+use Rattle.cv_alone.specs.declared.alone.RunEnd.{RunEnd}
+use Rattle.cv_alone.specs.declared.alone.RunEnd.TheVariants.{Spent, Quiescent}
 use Rattle.cv_mesh.specs.Going.{is_of_run}
 use Rattle.cv_mesh.specs.Keeping.{StandsSent}
 use Rattle.cv_mesh.specs.Links.{LinkKept}
@@ -57,7 +57,7 @@ pub record GoesOn (old new : ClusterView) (fired : ℕ) : Type 0 where
   pub count : firings_of new.nodes ≡ firings_of old.nodes + fired
 
 -- a run is spent exactly after the firings that were allowed
-abbrev pub Stops : ClusterView → ℕ → Stop → ClusterView → Type 0
+abbrev pub Stops : ClusterView → ℕ → RunEnd → ClusterView → Type 0
 Stops old most Spent new = GoesOn old new most
 Stops old most Quiescent new = (fired : ℕ) × (fired < most) × GoesOn old new fired
 

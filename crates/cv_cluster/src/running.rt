@@ -5,7 +5,7 @@ ghost use Rattle.cv_cluster.specs.Cluster.{GoesOn, Stops};
 ghost use Rattle.cv_cluster.specs.Turns.{BringsOn, firings_by};
 
 use crate::cluster::Cluster;
-use cv_alone::Stop;
+use cv_alone::RunEnd;
 use cv_io::Gate;
 use cv_token::OutOfMemory;
 use std::alloc::Global;
@@ -61,7 +61,7 @@ impl Cluster {
         alloc: Global,
         most: u32,
         gate: &G,
-    ) -> Result<Stop, OutOfMemory>
+    ) -> Result<RunEnd, OutOfMemory>
         ensures stops { IfOk result (λ stop. Stops self.old most stop self.new) }
         ensures err { OnErr result ((fired : ℕ) × (fired ≤ most) × GoesOn self.old self.new fired) }
         ensures fine { OnOk result (self.new.failed ≡ self.old.failed) }
@@ -76,9 +76,9 @@ impl Cluster {
                 }
                 Turn::Settled => settled = true,
                 Turn::Ticked => settled = false,
-                Turn::Rested => return Ok(Stop::Quiescent),
+                Turn::Rested => return Ok(RunEnd::Quiescent),
             }
         }
-        Ok(Stop::Spent)
+        Ok(RunEnd::Spent)
     }
 }

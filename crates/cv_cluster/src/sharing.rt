@@ -112,11 +112,11 @@ pub(crate) fn share(stations: &mut [Station], most: u32, round: u32)
     let count = stations.len();
     let start = first_place(stations, round);
     let after = count - start;
-    let left = give(stations, start, count, most, told(count));
-    give(stations, 0, start, left, told(count - after));
+    let left = give(stations, start, count, most, in_u32(count));
+    give(stations, 0, start, left, in_u32(count - after));
 }
 
 /// The count in 32 bits.
-fn told(count: usize) -> u32 {
+fn in_u32(count: usize) -> u32 {
     count.min(u32::MAX as usize) as u32
 }

@@ -8,7 +8,7 @@ use Rattle.cv_lex.specs.declared.lexeme.LexFault.{LexFault}
 use Rattle.cv_lex.specs.declared.lexeme.LexFault.TheVariants as lexing
 use Rattle.cv_lex.specs.Faults.{HasFault as HasLexFault}
 use Rattle.cv_lex.specs.Lexemes.{Gives as LexGives, Fails}
-use Rattle.cv_lex.specs.Spelling.{Spells as SpellsLexemes}
+use Rattle.cv_lex.specs.Spelling.{SpellsLexemes}
 use Rattle.cv_syntax.specs.declared.fault.ParseFault.{ParseFault}
 use Rattle.cv_syntax.specs.declared.fault.ParseFault.TheVariants as parsing
 use Rattle.cv_syntax.specs.declared.tree.Script.{Script}

@@ -14,12 +14,12 @@ use Rattle.cv_lex.specs.declared.lexeme.Lexeme.{Lexeme}
 use Rattle.cv_lex.specs.declared.lexeme.LexFault.{LexFault}
 use Rattle.cv_lex.specs.declared.lexeme.LexFault.TheVariants as lexing
 use Rattle.cv_lex.specs.Faults.{HasFault as HasLexFault}
-use Rattle.cv_lex.specs.Spelling.{Spells as SpellsLexemes}
+use Rattle.cv_lex.specs.Spelling.{SpellsLexemes}
 use Rattle.cv_syntax.specs.declared.fault.ParseFault.{ParseFault}
 use Rattle.cv_syntax.specs.declared.fault.ParseFault.TheVariants as parsing
 use Rattle.cv_syntax.specs.declared.tree.Item.{Item}
 use Rattle.cv_syntax.specs.declared.tree.Script.{Script}
-use Rattle.cv_syntax.specs.Grammar.{Spells as SpellsTree, HasFault as HasParseFault}
+use Rattle.cv_syntax.specs.Grammar.{SpellsTree, HasFault as HasParseFault}
 use Rattle.cv_syntax.specs.Parsing.{words_of}
 use Rattle.cv_deploy.specs.declared.fault.Code.{Code}
 use Rattle.cv_deploy.specs.declared.fault.Code.TheVariants as code

@@ -14,7 +14,7 @@ use cv_frame::parts::{actor_of, conn_of, number_below};
 use cv_token::{ActorId, ConnId, Token};
 
 /// The number of an inport or an action.
-fn place_of(token: &Token) -> Option<u8>
+fn read_port(token: &Token) -> Option<u8>
     ensures { Spells IsPlace number token.now result }
 {
     Some(number_below(1 << 8, token)? as u8)
@@ -62,6 +62,6 @@ pub(crate) fn choice_behind(token: &Token, name: &str) -> Option<Choice>
 {
     let rest = behind(token, name, 3)?;
     let actor = actor_of(&rest[0])?;
-    let place = place_of(&rest[1])?;
+    let place = read_port(&rest[1])?;
     Some(Choice { actor, place })
 }

@@ -3,8 +3,8 @@ use Rattle.std.proofs.Common.{◌≡◌, ℕ, zero, suc, ◌+◌, Bool, true, fa
 use Rattle.cv_syntax.specs.declared.tree.KindName.{KindName}
 use Rattle.cv_syntax.specs.declared.tree.KindName.TheVariants as kinds
 use Rattle.cv_syntax.specs.declared.tree.Declare.{Declare}
-use Rattle.cv_syntax.specs.declared.tree.Source.{Source}
-use Rattle.cv_syntax.specs.declared.tree.Source.TheVariants as sources
+use Rattle.cv_syntax.specs.declared.tree.JoinSource.{JoinSource}
+use Rattle.cv_syntax.specs.declared.tree.JoinSource.TheVariants as sources
 use Rattle.cv_syntax.specs.declared.tree.Aim.{Aim}
 use Rattle.cv_syntax.specs.declared.tree.Join.{Join}
 use Rattle.cv_syntax.specs.declared.tree.Statement.{Statement}
@@ -71,7 +71,7 @@ sort_met w root inner within s body leads d there (kinds.Plain n) is e h = compo
 -- ---- joins
 
 -- of what was met only the number of joins from a value matters to a join
-pub same_origin : (seen later : Seen) (source : Source) → seen.constants ≡ later.constants → origin_of seen source ≡ origin_of later source
+pub same_origin : (seen later : Seen) (source : JoinSource) → seen.constants ≡ later.constants → origin_of seen source ≡ origin_of later source
 same_origin seen later sources.Voidport same = refl
 same_origin seen later (sources.Own port) same = refl
 same_origin seen later (sources.Port actor port) same = refl

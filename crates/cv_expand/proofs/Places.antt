@@ -4,8 +4,8 @@ use Rattle.std.proofs.lemmas.List.{append-nil}
 use Rattle.cv_syntax.specs.declared.tree.KindName.{KindName}
 use Rattle.cv_syntax.specs.declared.tree.KindName.TheVariants as kinds
 use Rattle.cv_syntax.specs.declared.tree.Declare.{Declare}
-use Rattle.cv_syntax.specs.declared.tree.Source.{Source}
-use Rattle.cv_syntax.specs.declared.tree.Source.TheVariants as sources
+use Rattle.cv_syntax.specs.declared.tree.JoinSource.{JoinSource}
+use Rattle.cv_syntax.specs.declared.tree.JoinSource.TheVariants as sources
 use Rattle.cv_syntax.specs.declared.tree.Aim.{Aim}
 use Rattle.cv_syntax.specs.declared.tree.Join.{Join}
 use Rattle.cv_syntax.specs.declared.tree.Statement.{Statement}
@@ -158,7 +158,7 @@ constant_taken : (seen : Seen) (b : Bool) → b ≡ true → Taken seen (record 
 constant_taken seen true is = (omega arith, λ free. omega arith)
 constant_taken seen false is = cc
 
-given_is_value : (w : World) (s : Spot) (source : Source) (given : Given) → source_given w s source ≡ Some given → is_value source ≡ true
+given_is_value : (w : World) (s : Spot) (source : JoinSource) (given : Given) → source_given w s source ≡ Some given → is_value source ≡ true
 given_is_value w s sources.Voidport given e = cc
 given_is_value w s (sources.Own port) given e = cc
 given_is_value w s (sources.Port actor port) given e = cc

@@ -9,8 +9,8 @@ use Rattle.cv_syntax.specs.declared.tree.Arg.{Arg}
 use Rattle.cv_syntax.specs.declared.tree.KindName.{KindName}
 use Rattle.cv_syntax.specs.declared.tree.KindName.TheVariants as kinds
 use Rattle.cv_syntax.specs.declared.tree.Declare.{Declare}
-use Rattle.cv_syntax.specs.declared.tree.Source.{Source}
-use Rattle.cv_syntax.specs.declared.tree.Source.TheVariants as sources
+use Rattle.cv_syntax.specs.declared.tree.JoinSource.{JoinSource}
+use Rattle.cv_syntax.specs.declared.tree.JoinSource.TheVariants as sources
 use Rattle.cv_syntax.specs.declared.tree.Aim.{Aim}
 use Rattle.cv_syntax.specs.declared.tree.Join.{Join}
 use Rattle.cv_syntax.specs.declared.tree.Statement.{Statement}
@@ -171,14 +171,14 @@ abbrev pub constant_at : Spot → Seen → Join → Given → Actor
 constant_at s seen j given = record { path = s.path ++ constant_step seen ∷ []; kind = constant_kind; args = constant_args j given; at = j.at }
 
 -- the value of a source that is one; an unknown name has none
-abbrev pub source_given : World → Spot → Source → Option Given
+abbrev pub source_given : World → Spot → JoinSource → Option Given
 source_given w s (sources.Literal literal) = Some (givens.Literal literal)
 source_given w s (sources.Name name) = given_named w s name
 source_given w s sources.Voidport = None
 source_given w s (sources.Own port) = None
 source_given w s (sources.Port actor port) = None
 
-abbrev pub is_value : Source → Bool
+abbrev pub is_value : JoinSource → Bool
 is_value (sources.Literal literal) = true
 is_value (sources.Name name) = true
 is_value sources.Voidport = false
@@ -192,7 +192,7 @@ abbrev pub constant_events : Spot → Seen → Join → Option Given → List Ev
 constant_events s seen j None = []
 constant_events s seen j (Some given) = actor_met (constant_at s seen j given) ∷ []
 
-abbrev pub origin_of : Seen → Source → Origin
+abbrev pub origin_of : Seen → JoinSource → Origin
 origin_of seen sources.Voidport = origins.Void
 origin_of seen (sources.Own port) = origins.Own port
 origin_of seen (sources.Port actor port) = origins.Port (steps.Name actor) port

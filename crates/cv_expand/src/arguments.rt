@@ -12,7 +12,7 @@ use crate::named::Named;
 use crate::setting::{Spot, World};
 use cv_lex::NameText;
 use cv_readers::Name;
-use cv_syntax::{Arg, Join, Source, Value};
+use cv_syntax::{Arg, Join, JoinSource, Value};
 use cv_token::OutOfMemory;
 use sqlite_items::Items;
 use std::alloc::Global;
@@ -61,8 +61,8 @@ pub(crate) fn source_given(
     ensures { Answers result (unless (source_faults world.now spot.now join.now) (source_given world.now spot.now (join.now).source)) }
 {
     match &join.source {
-        Source::Literal(literal) => Ok(Some(Given::Literal(copy_literal(alloc, literal)?))),
-        Source::Name(name) => match given_named(alloc, world, spot, name)? {
+        JoinSource::Literal(literal) => Ok(Some(Given::Literal(copy_literal(alloc, literal)?))),
+        JoinSource::Name(name) => match given_named(alloc, world, spot, name)? {
             Some(given) => Ok(Some(given)),
             None => Err(ExpandFault::NoArg { at: join.at }),
         },

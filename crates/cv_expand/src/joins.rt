@@ -14,7 +14,7 @@ use crate::putting::{put_actor, put_feed};
 use crate::setting::{Seen, Spot, World};
 use cv_lex::NameText;
 use cv_readers::Name;
-use cv_syntax::{Aim, Join, Literal, Source};
+use cv_syntax::{Aim, Join, JoinSource, Literal};
 use cv_token::{OutOfMemory, Text};
 use sqlite_items::Items;
 use std::alloc::Global;
@@ -156,18 +156,18 @@ fn feed_at(
 }
 
 /// Where a join comes from, in its body.
-fn origin_of(alloc: Global, seen: &Seen, source: &Source) -> Result<Origin, OutOfMemory>
+fn origin_of(alloc: Global, seen: &Seen, source: &JoinSource) -> Result<Origin, OutOfMemory>
     requires { (seen.now).constants < 2 ^ 63 }
     ensures { IfOk result (λ origin. origin ≡ origin_of seen.now source.now) }
 {
     match source {
-        Source::Voidport => Ok(Origin::Void),
-        Source::Own(port) => Ok(Origin::Own(port.copy(alloc)?)),
-        Source::Port(actor, port) => {
+        JoinSource::Voidport => Ok(Origin::Void),
+        JoinSource::Own(port) => Ok(Origin::Own(port.copy(alloc)?)),
+        JoinSource::Port(actor, port) => {
             let actor = actor.copy(alloc)?;
             Ok(Origin::Port(Step::Name(actor), port.copy(alloc)?))
         }
-        Source::Name(_) | Source::Literal(_) => {
+        JoinSource::Name(_) | JoinSource::Literal(_) => {
             let port = name_text(alloc, "token")?;
             Ok(Origin::Port(constant_step(seen), port))
         }

@@ -68,7 +68,7 @@ impl<T: Drop> Named<T> {
         ensures { IfOk result (λ named. named ≡ self ++ record { key = key; value = value } ∷ []) }
     {
         let Named { places, pairs } = self;
-        let places = noted(alloc, places, key.as_str(), pairs.len())?;
+        let places = note_name(alloc, places, key.as_str(), pairs.len())?;
         let mut pairs = pairs;
         pairs.push(Pair { key, value })?;
         Ok(Named { places, pairs })
@@ -86,7 +86,7 @@ fn value_at<T>(pairs: &[Pair<T>], place: usize) -> Option<&T>
 }
 
 /// The same places, and this one under its name where the name has none.
-fn noted(
+fn note_name(
     alloc: Global,
     places: BTreeMap<String, usize>,
     name: &str,

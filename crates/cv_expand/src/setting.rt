@@ -8,7 +8,7 @@ use crate::flat::Given;
 use crate::named::Named;
 use crate::path::Path;
 use cv_lex::NameText;
-use cv_syntax::{Source, Statement};
+use cv_syntax::{JoinSource, Statement};
 use cv_token::OutOfMemory;
 use sqlite_items::Items;
 use std::alloc::Global;
@@ -84,8 +84,8 @@ pub(crate) fn note_statement(
 }
 
 /// Whether a source is a value.
-fn is_value(source: &Source) -> bool
+fn is_value(source: &JoinSource) -> bool
     ensures { result ≡ is_value source.now }
 {
-    matches!(source, Source::Literal(_) | Source::Name(_))
+    matches!(source, JoinSource::Literal(_) | JoinSource::Name(_))
 }

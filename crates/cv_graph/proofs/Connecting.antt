@@ -3,7 +3,7 @@ use Rattle.std.proofs.Common.{◌≡◌, ◌↔◌, ℕ, zero, suc, ◌+◌, ◌
 use Rattle.cv_expand.specs.declared.flat.Parts.{Parts}
 use Rattle.cv_expand.specs.Bodies.{Among}
 use Rattle.cv_expand.proofs.Among.{Among-append_left, Among-append_right, Among-append_cases}
-use Rattle.cv_kinds.specs.declared.network.Join.{Join}
+use Rattle.cv_kinds.specs.declared.network.Connection.{Connection}
 use Rattle.cv_kinds.specs.Wired.{IsBelow, AllAbove, Rising}
 use Rattle.cv_graph.specs.declared.port.Side.TheVariants as side
 use Rattle.cv_graph.specs.declared.ways.Supply.{Supply}
@@ -17,40 +17,40 @@ use Rattle.cv_graph.proofs.Single.{above_all}
 
 -- ---- members
 
-record IsLink (supply : ℕ → ℕ → Option Supply) (to inp : ℕ) (j : Join) : Type 0 where
+record IsLink (supply : ℕ → ℕ → Option Supply) (to inp : ℕ) (j : Connection) : Type 0 where
   supplied_by : supply to inp ≡ Some (supplies.Outport j.from j.out)
   consumer : j.to ≡ to
   inport : j.inp ≡ inp
 
-link_is : (supply : ℕ → ℕ → Option Supply) (to inp : ℕ) (o : Option Supply) (j : Join) → supply to inp ≡ o → Among (link to inp o) j → IsLink supply to inp j
+link_is : (supply : ℕ → ℕ → Option Supply) (to inp : ℕ) (o : Option Supply) (j : Connection) → supply to inp ≡ o → Among (link to inp o) j → IsLink supply to inp j
 link_is supply to inp None j e h = absurd h
 link_is supply to inp (Some supplies.Void) j e h = absurd h
 link_is supply to inp (Some (supplies.Outport from out)) j e (inl same) = record {
-  supplied_by = e ∙ ap (λ (x : Join). Some (supplies.Outport x.from x.out)) same;
-  consumer = ap (λ (x : Join). x.to) (sym same);
-  inport = ap (λ (x : Join). x.inp) (sym same);
+  supplied_by = e ∙ ap (λ (x : Connection). Some (supplies.Outport x.from x.out)) same;
+  consumer = ap (λ (x : Connection). x.to) (sym same);
+  inport = ap (λ (x : Connection). x.inp) (sym same);
 }
 link_is supply to inp (Some (supplies.Outport from out)) j e (inr h) = absurd h
 
 -- a connection of an actor is that of one of its inports
-abbrev AtIs : (ℕ → ℕ → Option Supply) → ℕ → ℕ → List (List ℕ) → Join → Type 0
+abbrev AtIs : (ℕ → ℕ → Option Supply) → ℕ → ℕ → List (List ℕ) → Connection → Type 0
 AtIs supply to inp names j = (k : ℕ) × (name : List ℕ) × (slice_get names k ≡ Some name) × IsLink supply to (inp + k) j
 
-at_step : (supply : ℕ → ℕ → Option Supply) (to inp : ℕ) (n : List ℕ) (names : List (List ℕ)) (j : Join) → (Among (links_at supply to (suc inp) names) j → AtIs supply to (suc inp) names j) → Among (link to inp (supply to inp)) j ⊎ Among (links_at supply to (suc inp) names) j → AtIs supply to inp (n ∷ names) j
+at_step : (supply : ℕ → ℕ → Option Supply) (to inp : ℕ) (n : List ℕ) (names : List (List ℕ)) (j : Connection) → (Among (links_at supply to (suc inp) names) j → AtIs supply to (suc inp) names j) → Among (link to inp (supply to inp)) j ⊎ Among (links_at supply to (suc inp) names) j → AtIs supply to inp (n ∷ names) j
 at_step supply to inp n names j later (inl g) = let same : inp ≡ inp + 0 = omega arith in (0, n, refl, subst (λ i. IsLink supply to i j) same (link_is supply to inp (supply to inp) j refl g))
 at_step supply to inp n names j later (inr g) =
     let r = later g in
     let same : suc inp + r.0 ≡ inp + suc r.0 = omega arith in
     (suc r.0, r.1, r.2, subst (λ i. IsLink supply to i j) same r.3)
 
-at_is : (supply : ℕ → ℕ → Option Supply) (to inp : ℕ) (names : List (List ℕ)) (j : Join) → Among (links_at supply to inp names) j → (k : ℕ) × (name : List ℕ) × (slice_get names k ≡ Some name) × IsLink supply to (inp + k) j
+at_is : (supply : ℕ → ℕ → Option Supply) (to inp : ℕ) (names : List (List ℕ)) (j : Connection) → Among (links_at supply to inp names) j → (k : ℕ) × (name : List ℕ) × (slice_get names k ≡ Some name) × IsLink supply to (inp + k) j
 at_is supply to inp [] j h = absurd h
 at_is supply to inp (n ∷ names) j h = at_step supply to inp n names j (at_is supply to (suc inp) names j) (Among-append_cases (link to inp (supply to inp)) (links_at supply to (suc inp) names) j h)
 
-abbrev FromIs : (ℕ → ℕ → Option Supply) → ℕ → List Place → Join → Type 0
+abbrev FromIs : (ℕ → ℕ → Option Supply) → ℕ → List Place → Connection → Type 0
 FromIs supply to ps j = (k : ℕ) × (p : Place) × (i : ℕ) × (name : List ℕ) × (slice_get ps k ≡ Some p) × (slice_get p.inports i ≡ Some name) × IsLink supply (to + k) i j
 
-from_step : (supply : ℕ → ℕ → Option Supply) (to : ℕ) (p : Place) (ps : List Place) (j : Join) → (Among (links_from supply (suc to) ps) j → FromIs supply (suc to) ps j) → Among (links_at supply to 0 p.inports) j ⊎ Among (links_from supply (suc to) ps) j → FromIs supply to (p ∷ ps) j
+from_step : (supply : ℕ → ℕ → Option Supply) (to : ℕ) (p : Place) (ps : List Place) (j : Connection) → (Among (links_from supply (suc to) ps) j → FromIs supply (suc to) ps j) → Among (links_at supply to 0 p.inports) j ⊎ Among (links_from supply (suc to) ps) j → FromIs supply to (p ∷ ps) j
 from_step supply to p ps j later (inl g) =
     let r = at_is supply to 0 p.inports j g in
     let same : to ≡ to + 0 = omega arith in
@@ -61,14 +61,14 @@ from_step supply to p ps j later (inr g) =
     let same : suc to + r.0 ≡ to + suc r.0 = omega arith in
     (suc r.0, r.1, r.2, r.3, r.4, r.5, subst (λ n. IsLink supply n r.2 j) same r.6)
 
-from_is : (supply : ℕ → ℕ → Option Supply) (to : ℕ) (ps : List Place) (j : Join) → Among (links_from supply to ps) j → FromIs supply to ps j
+from_is : (supply : ℕ → ℕ → Option Supply) (to : ℕ) (ps : List Place) (j : Connection) → Among (links_from supply to ps) j → FromIs supply to ps j
 from_is supply to [] j h = absurd h
 from_is supply to (p ∷ ps) j h = from_step supply to p ps j (from_is supply (suc to) ps j) (Among-append_cases (links_at supply to 0 p.inports) (links_from supply (suc to) ps) j h)
 
-is_link : (to inp : ℕ) (o : Option Supply) (j : Join) → o ≡ Some (supplies.Outport j.from j.out) → j.to ≡ to → j.inp ≡ inp → Among (link to inp o) j
+is_link : (to inp : ℕ) (o : Option Supply) (j : Connection) → o ≡ Some (supplies.Outport j.from j.out) → j.to ≡ to → j.inp ≡ inp → Among (link to inp o) j
 is_link to inp o j e t i = subst (λ (x : Option Supply). Among (link to inp x) j) (sym e) (inl (λ n. record { from = j.from; out = j.out; to = (sym t) n; inp = (sym i) n }))
 
-is_at : (supply : ℕ → ℕ → Option Supply) (to inp : ℕ) (names : List (List ℕ)) (k : ℕ) (name : List ℕ) (j : Join) → slice_get names k ≡ Some name → supply to (inp + k) ≡ Some (supplies.Outport j.from j.out) → j.to ≡ to → j.inp ≡ inp + k → Among (links_at supply to inp names) j
+is_at : (supply : ℕ → ℕ → Option Supply) (to inp : ℕ) (names : List (List ℕ)) (k : ℕ) (name : List ℕ) (j : Connection) → slice_get names k ≡ Some name → supply to (inp + k) ≡ Some (supplies.Outport j.from j.out) → j.to ≡ to → j.inp ≡ inp + k → Among (links_at supply to inp names) j
 is_at supply to inp [] k name j e s t i = cc
 is_at supply to inp (n ∷ names) zero name j e s t i =
     let same : inp + 0 ≡ inp = omega arith in
@@ -77,7 +77,7 @@ is_at supply to inp (n ∷ names) (suc k) name j e s t i =
     let same : inp + suc k ≡ suc inp + k = omega arith in
     Among-append_right (link to inp (supply to inp)) (links_at supply to (suc inp) names) j (is_at supply to (suc inp) names k name j e (ap (supply to) (sym same) ∙ s) t (i ∙ same))
 
-is_from : (supply : ℕ → ℕ → Option Supply) (to : ℕ) (ps : List Place) (k i : ℕ) (p : Place) (name : List ℕ) (j : Join) → slice_get ps k ≡ Some p → slice_get p.inports i ≡ Some name → supply (to + k) i ≡ Some (supplies.Outport j.from j.out) → j.to ≡ to + k → j.inp ≡ i
+is_from : (supply : ℕ → ℕ → Option Supply) (to : ℕ) (ps : List Place) (k i : ℕ) (p : Place) (name : List ℕ) (j : Connection) → slice_get ps k ≡ Some p → slice_get p.inports i ≡ Some name → supply (to + k) i ≡ Some (supplies.Outport j.from j.out) → j.to ≡ to + k → j.inp ≡ i
     → Among (links_from supply to ps) j
 is_from supply to [] k i p name j e n s t h = cc
 is_from supply to (q ∷ ps) zero i p name j e n s t h =
@@ -90,7 +90,7 @@ is_from supply to (q ∷ ps) (suc k) i p name j e n s t h =
     Among-append_right (links_at supply to 0 q.inports) (links_from supply (suc to) ps) j (is_from supply (suc to) ps k i p name j e n (ap (λ x. supply x i) (sym same) ∙ s) (t ∙ same) h)
 
 -- the connections are where ways lead
-pub links_connect : (parts : Parts) (supply : ℕ → ℕ → Option Supply) (j : Join) → AreSupplied parts supply → Among (links_from supply 0 (actor_places parts)) j ↔ Connects parts j
+pub links_connect : (parts : Parts) (supply : ℕ → ℕ → Option Supply) (j : Connection) → AreSupplied parts supply → Among (links_from supply 0 (actor_places parts)) j ↔ Connects parts j
 links_connect parts supply j known = (there, back)
   where
     there : Among (links_from supply 0 (actor_places parts)) j → Connects parts j
@@ -111,15 +111,15 @@ links_connect parts supply j known = (there, back)
 
 -- ---- order
 
-all_above : (j : Join) (js : List Join) → ((k : Join) → Among js k → IsBelow j k) → AllAbove j js
+all_above : (j : Connection) (js : List Connection) → ((k : Connection) → Among js k → IsBelow j k) → AllAbove j js
 all_above j [] h = tt
 all_above j (k ∷ js) h = (h k (inl refl), all_above j js (λ x a. h x (inr a)))
 
-rising_append : (xs ys : List Join) → Rising xs → Rising ys → ((j k : Join) → Among xs j → Among ys k → IsBelow j k) → Rising (xs ++ ys)
+rising_append : (xs ys : List Connection) → Rising xs → Rising ys → ((j k : Connection) → Among xs j → Among ys k → IsBelow j k) → Rising (xs ++ ys)
 rising_append [] ys h g below = g
 rising_append (x ∷ xs) ys h g below = (all_above x (xs ++ ys) (λ k a. by_case k (Among-append_cases xs ys k a)), rising_append xs ys h.1 g (λ j k a b. below j k (inr a) b))
   where
-    by_case : (k : Join) → Among xs k ⊎ Among ys k → IsBelow x k
+    by_case : (k : Connection) → Among xs k ⊎ Among ys k → IsBelow x k
     by_case k (inl a) = above_all x xs k h.0 a
     by_case k (inr b) = below x k (inl refl) b
 
@@ -132,7 +132,7 @@ at_rising : (supply : ℕ → ℕ → Option Supply) (to inp : ℕ) (names : Lis
 at_rising supply to inp [] = tt
 at_rising supply to inp (n ∷ names) = rising_append (link to inp (supply to inp)) (links_at supply to (suc inp) names) (link_rising to inp (supply to inp)) (at_rising supply to (suc inp) names) below
   where
-    below : (j k : Join) → Among (link to inp (supply to inp)) j → Among (links_at supply to (suc inp) names) k → IsBelow j k
+    below : (j k : Connection) → Among (link to inp (supply to inp)) j → Among (links_at supply to (suc inp) names) k → IsBelow j k
     below j k a b =
         let l = link_is supply to inp (supply to inp) j refl a in
         let r = at_is supply to (suc inp) names k b in
@@ -143,7 +143,7 @@ from_rising : (supply : ℕ → ℕ → Option Supply) (to : ℕ) (ps : List Pla
 from_rising supply to [] = tt
 from_rising supply to (p ∷ ps) = rising_append (links_at supply to 0 p.inports) (links_from supply (suc to) ps) (at_rising supply to 0 p.inports) (from_rising supply (suc to) ps) below
   where
-    below : (j k : Join) → Among (links_at supply to 0 p.inports) j → Among (links_from supply (suc to) ps) k → IsBelow j k
+    below : (j k : Connection) → Among (links_at supply to 0 p.inports) j → Among (links_from supply (suc to) ps) k → IsBelow j k
     below j k a b =
         let l = at_is supply to 0 p.inports j a in
         let r = from_is supply (suc to) ps k b in

@@ -18,7 +18,7 @@ use Rattle.cv_graph.specs.declared.ways.Supply.TheVariants as supplies
 use Rattle.cv_graph.specs.declared.ways.Way.{Way}
 use Rattle.cv_graph.specs.declared.ways.Way.TheVariants as ways
 use Rattle.cv_graph.specs.Links.{back_to, way_from, way_of, ended, supply_in, supplied, Feeds, AreSupplied}
-use Rattle.cv_graph.specs.Ports.{End, void, port, source_of, target_of, Steps, Reaches, at_once, both, Place, names_on, actor_places, instance_places, places, IsActorPort, IsFed}
+use Rattle.cv_graph.specs.Ports.{End, void, port, source_of, target_of, IsFeed, Reaches, at_once, both, Place, names_on, actor_places, instance_places, places, IsActorPort, IsFed}
 use Rattle.cv_graph.specs.Tables.{IsPort, IsEnd, IsAim, IsWire, AreWires, feeder, Indexed}
 use Rattle.cv_graph.specs.Ways.{EndsIn, here, there, AreEnded}
 use Rattle.cv_graph.proofs.Lists.{some_same, among_at, place_among, at_map, map_at, front_at, at_front}
@@ -160,8 +160,8 @@ spring_of parts f w p (port path s name) h is port_is less =
 abbrev pub From : List Feed → End → End → Type 0
 From feeds x y = (x ≡ y) ⊎ Reaches feeds x y
 
-one_step : (feeds : List Feed) (x y z : End) → From feeds x y → Steps feeds y z → Reaches feeds x z
-one_step feeds x y z (inl same) s = at_once x z (subst (λ (e : End). Steps feeds e z) (sym same) s)
+one_step : (feeds : List Feed) (x y z : End) → From feeds x y → IsFeed feeds y z → Reaches feeds x z
+one_step feeds x y z (inl same) s = at_once x z (subst (λ (e : End). IsFeed feeds e z) (sym same) s)
 one_step feeds x y z (inr h) s = both x y z h (at_once y z s)
 
 -- a way that ends at a supply is a way from its spring

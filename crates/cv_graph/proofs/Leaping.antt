@@ -9,7 +9,7 @@ use Rattle.std.specs.Prelude.{option_and_then}
 use Rattle.cv_graph.specs.declared.ways.Supply.{Supply}
 use Rattle.cv_graph.specs.declared.ways.Way.{Way}
 use Rattle.cv_graph.specs.declared.ways.Way.TheVariants as way
-use Rattle.cv_graph.specs.Ways.{AreWithin, EndsIn, here, there, Leads, next, on, IsSo, IsOn, IsBack, is_back, still, further, leapt}
+use Rattle.cv_graph.specs.Ways.{AreWithin, EndsIn, here, there, LeadsBack, next, on, IsSo, IsOn, IsBack, is_back, still, further, leapt}
 
 -- ---- an element that is written
 
@@ -33,15 +33,15 @@ some_same x y e = cc
 
 -- ---- steps back
 
-both_ways : (o : List Way) (k j i : ℕ) → Leads o k j → Leads o j i → Leads o k i
+both_ways : (o : List Way) (k j i : ℕ) → LeadsBack o k j → LeadsBack o j i → LeadsBack o k i
 both_ways o k j _ h (next i e) = on i j e h
 both_ways o k j _ h (on i m e l) = on i m e (both_ways o k j m h l)
 
-ends_back : (o : List Way) (s : Option Supply) (j i : ℕ) → Leads o j i → EndsIn o s j → EndsIn o s i
+ends_back : (o : List Way) (s : Option Supply) (j i : ℕ) → LeadsBack o j i → EndsIn o s j → EndsIn o s i
 ends_back o s j _ (next i e) h = there i j e h
 ends_back o s j _ (on i m e l) h = there i m e (ends_back o s j m l h)
 
-so_back : (o : List Way) (i j : ℕ) (w : Way) → Leads o j i → IsSo o j w → IsSo o i w
+so_back : (o : List Way) (i j : ℕ) (w : Way) → LeadsBack o j i → IsSo o j w → IsSo o i w
 so_back o i j (way.Ended s) l h = ends_back o s j i l h
 so_back o i j (way.Back k) l h = both_ways o k j i h l
 
@@ -94,7 +94,7 @@ pub record Round (start now : List Way) (found : Bool) (at : ℕ) : Type 0 where
   pub same : length now ≡ length start
   pub within : AreWithin now
   pub on : (o : List Way) → IsOn o start → IsOn o now
-  pub stuck : found ≡ false → (o : List Way) → IsOn o start → (k : ℕ) → k < at → IsBack now k → (j : ℕ) × Leads o j k × IsBack now j
+  pub stuck : found ≡ false → (o : List Way) → IsOn o start → (k : ℕ) → k < at → IsBack now k → (j : ℕ) × LeadsBack o j k × IsBack now j
   pub fewer : found ≡ true → sum_by still now < sum_by still start
   pub no_more : sum_by still now ≤ sum_by still start
 
@@ -126,12 +126,12 @@ within_next now at a x inside is leap within = λ i j e. subst (λ (n : ℕ). j 
 ])
 
 stuck_next : (o now : List Way) (at : ℕ) (a x : Way) → at < length now → slice_get now at ≡ Some a → further now at a ≡ Some x → (is_back a && not (is_back x)) ≡ false → IsOn o now
-    → ((k : ℕ) → k < at → IsBack now k → (j : ℕ) × Leads o j k × IsBack now j) → (k : ℕ) → k < at + 1 → IsBack (set now at x) k → (j : ℕ) × Leads o j k × IsBack (set now at x) j
+    → ((k : ℕ) → k < at → IsBack now k → (j : ℕ) × LeadsBack o j k × IsBack now j) → (k : ℕ) → k < at + 1 → IsBack (set now at x) k → (j : ℕ) × LeadsBack o j k × IsBack (set now at x) j
 stuck_next o now at a x inside is leap quiet known before k below back = elim (cases_eq k at) [
   | inl same ↦
       let here_x : x ≡ way.Back back.0 = some_same x (way.Back back.0) (sym (at_same now at x inside) ∙ subst (λ (n : ℕ). slice_get (set now at x) n ≡ Some (way.Back back.0)) same back.1) in
       let s = leapt_stuck now at back.0 a x is leap here_x in
-      (s.0, subst (λ (n : ℕ). Leads o s.0 n) (sym same) (known.so at (way.Back s.0) (is ∙ ap Some s.1)), still_back now at s.0 a x inside is quiet (back.0, s.2))
+      (s.0, subst (λ (n : ℕ). LeadsBack o s.0 n) (sym same) (known.so at (way.Back s.0) (is ∙ ap Some s.1)), still_back now at s.0 a x inside is quiet (back.0, s.2))
   | inr apart ↦
       let b = before k (omega arith) (back.0, sym (at_other now at k x apart) ∙ back.1) in
       (b.0, b.1, still_back now at b.0 a x inside is quiet b.2)
@@ -187,7 +187,7 @@ one_less o s k _ _ (after m i j e h) back =
     let number : j ≡ k = cc in
     (m, refl, subst (λ (x : ℕ). EndsAfter o s m x) number h)
 
-later : (o : List Way) (s : Option Supply) (j n i : ℕ) → EndsAfter o s n i → Leads o j i → (m : ℕ) × (m < n) × EndsAfter o s m j
+later : (o : List Way) (s : Option Supply) (j n i : ℕ) → EndsAfter o s n i → LeadsBack o j i → (m : ℕ) × (m < n) × EndsAfter o s m j
 later o s j n _ h (next i e) = let r = one_less o s j n i h e in let e : n ≡ suc r.0 = r.1 in (r.0, omega arith, r.2)
 later o s j n _ h (on i k e l) =
     let r = one_less o s k n i h e in
@@ -215,7 +215,7 @@ one_end o s t _ (there i j e g) h = one_end o s t j g (ends_there o s i j h e)
 -- where no more ends are found all are
 pub record AllStuck (o w : List Way) : Type 0 where
   pub known : IsOn o w
-  pub stuck : (i : ℕ) → IsBack w i → (j : ℕ) × Leads o j i × IsBack w j
+  pub stuck : (i : ℕ) → IsBack w i → (j : ℕ) × LeadsBack o j i × IsBack w j
 
 begins : (o : List Way) (s : Option Supply) (n i : ℕ) → EndsAfter o s n i → (a : Way) × (slice_get o i ≡ Some a)
 begins o s _ _ (at_once i e) = (way.Ended s, e)

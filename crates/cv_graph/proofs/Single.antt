@@ -4,7 +4,7 @@ use Rattle.cv_expand.specs.declared.flat.Actor.{Actor}
 use Rattle.cv_expand.specs.declared.flat.Parts.{Parts}
 use Rattle.cv_expand.specs.Bodies.{Among}
 use Rattle.cv_kinds.specs.declared.network.ActorSpec.{ActorSpec}
-use Rattle.cv_kinds.specs.declared.network.Join.{Join}
+use Rattle.cv_kinds.specs.declared.network.Connection.{Connection}
 use Rattle.cv_kinds.specs.Net.{Net}
 use Rattle.cv_kinds.specs.Wired.{IsBelow, AllAbove, Rising}
 use Rattle.cv_graph.specs.declared.fault.GraphFault.{GraphFault}
@@ -63,7 +63,7 @@ one_actors (a ∷ actors) (x ∷ xs) (y ∷ ys) h g =
     let rest = one_actors actors xs ys h.1 g.1 in
     (λ i. first i ∷ rest i)
 
-not_both : (j k : Join) → IsBelow j k → IsBelow k j → ⊥
+not_both : (j k : Connection) → IsBelow j k → IsBelow k j → ⊥
 not_both j k h g =
     let less = h.0 in
     let more = g.0 in
@@ -72,22 +72,22 @@ not_both j k h g =
     let second = g.1 (sym same) in
     omega (arith, first, second)
 
-pub above_all : (j : Join) (js : List Join) (k : Join) → AllAbove j js → Among js k → IsBelow j k
+pub above_all : (j : Connection) (js : List Connection) (k : Connection) → AllAbove j js → Among js k → IsBelow j k
 above_all j [] k h a = absurd a
 above_all j (x ∷ js) k h (inl e) = subst (IsBelow j) e h.0
 above_all j (x ∷ js) k h (inr a) = above_all j js k h.1 a
 
-first_same : (x y : Join) (xs ys : List Join) → AllAbove x xs → AllAbove y ys → Among (y ∷ ys) x → Among (x ∷ xs) y → x ≡ y
+first_same : (x y : Connection) (xs ys : List Connection) → AllAbove x xs → AllAbove y ys → Among (y ∷ ys) x → Among (x ∷ xs) y → x ≡ y
 first_same x y xs ys h g (inl e) b = sym e
 first_same x y xs ys h g (inr a) (inl e) = e
 first_same x y xs ys h g (inr a) (inr b) = absurd (not_both x y (above_all x xs y h b) (above_all y ys x g a))
 
-behind : (x y : Join) (xs ys : List Join) (j : Join) → x ≡ y → AllAbove x xs → Among xs j → Among (y ∷ ys) j → Among ys j
+behind : (x y : Connection) (xs ys : List Connection) (j : Connection) → x ≡ y → AllAbove x xs → Among xs j → Among (y ∷ ys) j → Among ys j
 behind x y xs ys j same h a (inl e) = let above = above_all x xs j h a in absurd (not_both x x (subst (IsBelow x) (sym (same ∙ e)) above) (subst (IsBelow x) (sym (same ∙ e)) above))
 behind x y xs ys j same h a (inr b) = b
 
 -- lists that rise and have the same members are the same
-same_rising : (xs ys : List Join) → Rising xs → Rising ys → ((j : Join) → Among xs j ↔ Among ys j) → xs ≡ ys
+same_rising : (xs ys : List Connection) → Rising xs → Rising ys → ((j : Connection) → Among xs j ↔ Among ys j) → xs ≡ ys
 same_rising [] [] h g same = refl
 same_rising [] (y ∷ ys) h g same = absurd ((same y).1 (inl refl))
 same_rising (x ∷ xs) [] h g same = absurd ((same x).0 (inl refl))

@@ -14,7 +14,7 @@ use Rattle.cv_expand.specs.Paths.{IsPath}
 use Rattle.cv_expand.proofs.Among.{Among-append_left}
 use Rattle.cv_expand.proofs.PathTexts.{one_path}
 use Rattle.cv_kinds.specs.declared.network.ActorSpec.{ActorSpec}
-use Rattle.cv_kinds.specs.declared.network.Join.{Join}
+use Rattle.cv_kinds.specs.declared.network.Connection.{Connection}
 use Rattle.cv_kinds.specs.Net.{Net}
 use Rattle.cv_kinds.specs.WellFormed.{IsSpec as IsSound, IsWellFormed, path_list}
 use Rattle.cv_kinds.specs.Wired.{HasOutport, HasInport, IsWired, Joins}

@@ -3,7 +3,7 @@ use Rattle.std.specs.Prelude.{◌≡◌, ◌≢◌, ℕ, suc, nat_lt, if◌then�
 use Rattle.std.specs.Global.{Vec}
 use Rattle.std.specs.BTreeMap.{BTreeMap}
 use Rattle.cv_expand.specs.declared.flat.Parts.{Parts}
-use Rattle.cv_kinds.specs.declared.network.Join.{Join}
+use Rattle.cv_kinds.specs.declared.network.Connection.{Connection}
 use Rattle.cv_graph.specs.declared.fault.GraphFault.{GraphFault}
 use Rattle.cv_graph.specs.declared.fault.GraphFault.TheVariants as faults
 use Rattle.cv_graph.specs.declared.port.Port.{Port}
@@ -55,23 +55,23 @@ pub record AreSupplied (parts : Parts) (supply : ℕ → ℕ → Option Supply) 
 
 -- ---- connections
 
-abbrev pub link : ℕ → ℕ → Option Supply → List Join
+abbrev pub link : ℕ → ℕ → Option Supply → List Connection
 link to inp None = []
 link to inp (Some supplies.Void) = []
 link to inp (Some (supplies.Outport from out)) = record { from = from; out = out; to = to; inp = inp } ∷ []
 
 -- the connections with that of one more inport behind them, or Unfed where it has no supply
-abbrev pub Linked : List Join → ℕ → ℕ → Option Supply → ℕ → Result (Vec Join) GraphFault → Type 0
+abbrev pub Linked : List Connection → ℕ → ℕ → Option Supply → ℕ → Result (Vec Connection) GraphFault → Type 0
 Linked joins to inp supply at (Ok all) = (supply ≢ None) × (all.items ≡ joins ++ link to inp supply)
 Linked joins to inp supply at (Err faults.OutOfMemory) = Unit {0}
 Linked joins to inp supply at (Err fault) = (fault ≡ faults.Unfed at) × (supply ≡ None)
 
 -- the connections of an actor's inports, from one of them on
-abbrev pub links_at : (ℕ → ℕ → Option Supply) → ℕ → ℕ → List (List ℕ) → List Join
+abbrev pub links_at : (ℕ → ℕ → Option Supply) → ℕ → ℕ → List (List ℕ) → List Connection
 links_at supply to inp [] = []
 links_at supply to inp (name ∷ names) = link to inp (supply to inp) ++ links_at supply to (suc inp) names
 
 -- those of these actors, from one of them on
-abbrev pub links_from : (ℕ → ℕ → Option Supply) → ℕ → List Place → List Join
+abbrev pub links_from : (ℕ → ℕ → Option Supply) → ℕ → List Place → List Connection
 links_from supply to [] = []
 links_from supply to (p ∷ ps) = links_at supply to 0 p.inports ++ links_from supply (suc to) ps

@@ -5,7 +5,7 @@ use Rattle.cv_expand.specs.declared.flat.Actor.{Actor}
 use Rattle.cv_expand.specs.declared.flat.Parts.{Parts}
 use Rattle.cv_expand.specs.Bodies.{Among}
 use Rattle.cv_kinds.specs.declared.network.ActorSpec.{ActorSpec}
-use Rattle.cv_kinds.specs.declared.network.Join.{Join}
+use Rattle.cv_kinds.specs.declared.network.Connection.{Connection}
 use Rattle.cv_kinds.specs.KindRow.{row_of}
 use Rattle.cv_kinds.specs.Names.{kind_named}
 use Rattle.cv_kinds.specs.Net.{Net}
@@ -28,13 +28,13 @@ AreSpecs (a ∷ actors) (s ∷ specs) = IsSpec a s × AreSpecs actors specs
 AreSpecs _ _ = ⊥
 
 -- a way leads from the outport to the inport, both of actors
-abbrev pub Connects : Parts → Join → Type 0
+abbrev pub Connects : Parts → Connection → Type 0
 Connects parts j = (s : End) × (e : End) × IsActorPort parts side.Out j.from j.out s × IsActorPort parts side.In j.to j.inp e × Reaches parts.feeds s e
 
 -- the network has these actors in this order, and a connection exactly where a way leads
 pub record IsNetwork (parts : Parts) (net : Net) : Type 0 where
   pub actors : AreSpecs parts.actors net.actors
-  pub connections : (j : Join) → Among net.connections j ↔ Connects parts j
+  pub connections : (j : Connection) → Among net.connections j ↔ Connects parts j
   pub rising : Rising net.connections
 
 -- how many tokens wait at an inport at most

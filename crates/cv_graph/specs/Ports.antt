@@ -44,12 +44,12 @@ abbrev pub target_of : Feed → Option End
 target_of f = target_end f.body f.target
 
 -- a join leads from its source to its target
-abbrev pub Steps : List Feed → End → End → Type 0
-Steps feeds p q = (f : Feed) × Among feeds f × (source_of f ≡ p) × (target_of f ≡ Some q)
+abbrev pub IsFeed : List Feed → End → End → Type 0
+IsFeed feeds p q = (f : Feed) × Among feeds f × (source_of f ≡ p) × (target_of f ≡ Some q)
 
 -- the least relation that holds what joins do, and is closed under composition
 pub data Reaches (feeds : List Feed) : End → End → Type 0 where
-  at_once : (p q : End) → Steps feeds p q → Reaches feeds p q
+  at_once : (p q : End) → IsFeed feeds p q → Reaches feeds p q
   both : (p q r : End) → Reaches feeds p q → Reaches feeds q r → Reaches feeds p r
 
 -- ---- ports that are there

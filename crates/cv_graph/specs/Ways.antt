@@ -14,9 +14,9 @@ pub data EndsIn (ways : List Way) (s : Option Supply) : ℕ → Type 0 where
   there : (i j : ℕ) → slice_get ways i ≡ Some (way.Back j) → EndsIn ways s j → EndsIn ways s i
 
 -- one step back, or more, lead from a join to another
-pub data Leads (ways : List Way) (j : ℕ) : ℕ → Type 0 where
-  next : (i : ℕ) → slice_get ways i ≡ Some (way.Back j) → Leads ways j i
-  on : (i k : ℕ) → slice_get ways i ≡ Some (way.Back k) → Leads ways j k → Leads ways j i
+pub data LeadsBack (ways : List Way) (j : ℕ) : ℕ → Type 0 where
+  next : (i : ℕ) → slice_get ways i ≡ Some (way.Back j) → LeadsBack ways j i
+  on : (i k : ℕ) → slice_get ways i ≡ Some (way.Back k) → LeadsBack ways j k → LeadsBack ways j i
 
 abbrev pub is_back : Way → Bool
 is_back (way.Back j) = true
@@ -34,7 +34,7 @@ IsBack ways i = (j : ℕ) × (slice_get ways i ≡ Some (way.Back j))
 -- what is known of a join is so, on these ways
 abbrev pub IsSo : List Way → ℕ → Way → Type 0
 IsSo ways i (way.Ended s) = EndsIn ways s i
-IsSo ways i (way.Back j) = Leads ways j i
+IsSo ways i (way.Back j) = LeadsBack ways j i
 
 -- of each of these ways something is known
 pub record IsOn (ways known : List Way) : Type 0 where

@@ -17,7 +17,7 @@ use crate::port::{Port, Side, Wire};
 use crate::ways::{Supply, Way};
 use cv_behave::Behave;
 use cv_expand::{Actor, Parts};
-use cv_kinds::{Join, find};
+use cv_kinds::{Connection, find};
 use cv_token::OutOfMemory;
 use std::alloc::Global;
 use std::collections::BTreeMap;
@@ -65,7 +65,7 @@ pub fn connections_of(
     parts: &Parts,
     feeders: &BTreeMap<Port, usize>,
     ways: &[Way],
-) -> Result<Vec<Join>, GraphFault>
+) -> Result<Vec<Connection>, GraphFault>
     requires few { length (parts.now).actors ≤ 256 }
     requires supplied { AreSupplied parts.now (supplied feeders.now ways.now) }
     ensures judged { Judges parts.now (fed_checks (parts.now).actors) result }
@@ -84,8 +84,8 @@ fn connected(
     to: usize,
     feeders: &BTreeMap<Port, usize>,
     ways: &[Way],
-    joins: Vec<Join>,
-) -> Result<Vec<Join>, GraphFault>
+    joins: Vec<Connection>,
+) -> Result<Vec<Connection>, GraphFault>
     requires { to < 256 }
     ensures judged { (parts : Parts) → AreSupplied parts (supplied feeders.now ways.now) → slice_get parts.actors to ≡ Some actor.now → Judges parts (inport_checks actor.now (actor_place actor.now).inports) result }
     ensures links { IfOk result (λ all. all.items ≡ joins.items ++ links_at (supplied feeders.now ways.now) to 0 (actor_place actor.now).inports) }
@@ -93,19 +93,19 @@ fn connected(
     let mut joins = joins;
     for number in 0..inports_of(actor) {
         let supply = supply_of(feeders, ways, to, number);
-        joins = linked(joins, to, number, supply, actor.at)?;
+        joins = link_inport(joins, to, number, supply, actor.at)?;
     }
     Ok(joins)
 }
 
 /// The connections, and the one that a supply makes behind them.
-fn linked(
-    joins: Vec<Join>,
+fn link_inport(
+    joins: Vec<Connection>,
     to: usize,
     number: usize,
     supply: Option<Supply>,
     at: u32,
-) -> Result<Vec<Join>, GraphFault>
+) -> Result<Vec<Connection>, GraphFault>
     requires to { to < 256 }
     requires number { number < 256 }
     ensures { Linked joins.items to number supply at result }
@@ -114,7 +114,7 @@ fn linked(
     match supply {
         None => return Err(GraphFault::Unfed { at }),
         Some(Supply::Void) => {}
-        Some(Supply::Outport { actor, port }) => joins.push(Join {
+        Some(Supply::Outport { actor, port }) => joins.push(Connection {
             from: actor,
             out: port,
             to: to as u16,

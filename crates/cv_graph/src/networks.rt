@@ -3,7 +3,7 @@
 ghost use Rattle.std.specs.Prelude.{◌≡◌, ◌↔◌, ◌≤◌, ◌++◌, [], length, IfOk};
 ghost use Rattle.cv_expand.specs.Bodies.{Among};
 ghost use Rattle.cv_expand.specs.Flat.{IsFlat};
-ghost use Rattle.cv_kinds.specs.declared.network.Join.{Join};
+ghost use Rattle.cv_kinds.specs.declared.network.Connection.{Connection};
 ghost use Rattle.cv_kinds.specs.Wired.{Rising};
 ghost use Rattle.cv_graph.specs.Checks.{feed_checks, fed_checks, checks};
 ghost use Rattle.cv_graph.specs.Faults.{Judges};
@@ -18,7 +18,7 @@ use crate::placing::Places;
 use crate::queues::check_queues;
 use crate::ways::{Way, follow};
 use cv_expand::{Flat, Parts};
-use cv_kinds::{Join, Network};
+use cv_kinds::{Connection, Network};
 use std::alloc::Global;
 
 /// The network of a script's parts, or their first fault: of the actors in order their kinds and arguments; of the joins
@@ -35,10 +35,10 @@ pub fn network(alloc: Global, flat: &Flat) -> Result<Network, GraphFault>
 }
 
 /// The connections of the actors, or the first fault of joins and inports.
-fn connections(alloc: Global, parts: &Parts) -> Result<Vec<Join>, GraphFault>
+fn connections(alloc: Global, parts: &Parts) -> Result<Vec<Connection>, GraphFault>
     requires { IsFlat parts.now }
     ensures judged { Judges parts.now (feed_checks [] (parts.now).feeds ++ fed_checks (parts.now).actors) result }
-    ensures connections { IfOk result (λ joins. (j : Join) → Among joins.items j ↔ Connects parts.now j) }
+    ensures connections { IfOk result (λ joins. (j : Connection) → Among joins.items j ↔ Connects parts.now j) }
     ensures rising { IfOk result (λ joins. Rising joins.items) }
     ensures few { IfOk result (λ joins. length joins.items ≤ 4096) }
 {

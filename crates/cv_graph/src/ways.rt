@@ -3,7 +3,7 @@
 ghost use Rattle.std.specs.Prelude.{◌≡◌, ◌<◌, ◌↔◌, ◌&&◌, not, ℕ, true, false, Option, Some, List, length, sum_by, slice_get};
 ghost use Rattle.cv_graph.specs.declared.ways.Supply.{Supply};
 ghost use Rattle.cv_graph.specs.declared.ways.Way.{Way};
-ghost use Rattle.cv_graph.specs.Ways.{AreWithin, EndsIn, IsOn, IsBack, Leads, is_back, still, leapt};
+ghost use Rattle.cv_graph.specs.Ways.{AreWithin, EndsIn, IsOn, IsBack, LeadsBack, is_back, still, leapt};
 
 /// What is at the end of a way back.
 #[derive(Debug, Clone, Copy, PartialEq, Eq)]
@@ -44,7 +44,7 @@ fn round(ways: &mut [Way]) -> bool
     requires { AreWithin ways.old }
     ensures within { AreWithin ways.new }
     ensures on { (o : List Way) → IsOn o ways.old → IsOn o ways.new }
-    ensures stuck { result ≡ false → (o : List Way) → IsOn o ways.old → (i : ℕ) → IsBack ways.new i → (j : ℕ) × Leads o j i × IsBack ways.new j }
+    ensures stuck { result ≡ false → (o : List Way) → IsOn o ways.old → (i : ℕ) → IsBack ways.new i → (j : ℕ) × LeadsBack o j i × IsBack ways.new j }
     ensures fewer { result ≡ true → sum_by still ways.new < sum_by still ways.old }
 {
     let mut found = false;

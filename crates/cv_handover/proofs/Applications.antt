@@ -9,7 +9,7 @@ use Rattle.cv_token.specs.declared.identifiers.ActorId.{ActorId}
 use Rattle.cv_table.specs.Order.{actor_cmp, same_app}
 use Rattle.cv_table.proofs.Views.{same_app-cases, same_actor-cases, get_inserted, get_retained}
 use Rattle.cv_kinds.specs.declared.network.ActorSpec.{ActorSpec}
-use Rattle.cv_kinds.specs.declared.network.Join.{Join}
+use Rattle.cv_kinds.specs.declared.network.Connection.{Connection}
 use Rattle.cv_kinds.specs.Net.{Net}
 use Rattle.cv_protocol.specs.declared.frame.Body.TheVariants as body
 use Rattle.cv_protocol.specs.declared.frame.Frame.{Frame}
@@ -24,7 +24,7 @@ use Rattle.cv_handover.specs.World.{World, at}
 use Rattle.cv_handover.specs.Meaning.{Nets, Meaning, spec_of}
 use Rattle.cv_handover.specs.Agree.{living, copy_of, lives, copies, records, History, WasTried, IsUnheard, Numbered, Sent, Agree}
 use Rattle.cv_handover.proofs.Places.{some_of, at_cases}
-use Rattle.cv_handover.proofs.Goes.{Goes, Leads, seen_same, copies_same, records_same, numbered_kept, owned_carried, kept_carried}
+use Rattle.cv_handover.proofs.Goes.{Goes, GoesIfFew, seen_same, copies_same, records_same, numbered_kept, owned_carried, kept_carried}
 use Rattle.cv_handover.proofs.Growing.{outlasts_copies, sent_later, sent_one}
 use Rattle.cv_handover.proofs.Copies.{streams_owner}
 use Rattle.cv_handover.proofs.Departing.{lengthens_owner}
@@ -85,7 +85,7 @@ module _ (n : Nets) (w : World) (m : Meaning) (h : History) (i : ℕ) (g : Agree
     agrees = agrees_destroyed w.frames g.sent;
   }
 
-  pub leads_destroy : (stamp : ℕ) (x : Option Application) → Leads n w m i (destroy (w.nodes i) stamp app x)
+  pub leads_destroy : (stamp : ℕ) (x : Option Application) → GoesIfFew n w m i (destroy (w.nodes i) stamp app x)
   leads_destroy stamp None = tt
   leads_destroy stamp (Some known.Destroyed) = tt
   leads_destroy stamp (Some (known.Known name net)) =
@@ -128,7 +128,7 @@ one_same a b e =
       | inr s ↦ absurd (true≢false (sym e ∙ s.0))
     ]
 
-module _ (app : AppId) (joins : List Join) (now : ℕ) where
+module _ (app : AppId) (joins : List Connection) (now : ℕ) where
   abbrev numbered : ℕ → ActorId
   numbered k = record { app = app; actor = k }
 
@@ -279,6 +279,6 @@ module _ (n : Nets) (w : World) (m : Meaning) (h : History) (i : ℕ) (g : Agree
         };
       }
 
-  pub leads_deploy : (b : Bool) → Leads n w m i (deploy (w.nodes i) name net b)
+  pub leads_deploy : (b : Bool) → GoesIfFew n w m i (deploy (w.nodes i) name net b)
   leads_deploy false = tt
   leads_deploy true = λ fits. goes_deployed _

@@ -16,7 +16,7 @@ use Rattle.cv_handover.specs.World.{World, at}
 use Rattle.cv_handover.specs.Meaning.{Nets, Meaning, with_owners}
 use Rattle.cv_handover.specs.Agree.{Agree, Copy, History, IsTransfer, Kept, Living, Move, Owned, WasTried, copies, lives, records}
 use Rattle.cv_handover.proofs.Places.{set, set_cases, put, note, note_cases}
-use Rattle.cv_handover.proofs.Goes.{Goes, Leads, lives_removed, copies_inserted, records_same, numbered_kept, owned_carried, kept_carried}
+use Rattle.cv_handover.proofs.Goes.{Goes, GoesIfFew, lives_removed, copies_inserted, records_same, numbered_kept, owned_carried, kept_carried}
 use Rattle.cv_handover.proofs.Growing.{Lengthens, Outlasts, sent_later, sent_one}
 use Rattle.cv_handover.proofs.Copies.{streams_owner, streams_capture}
 use Rattle.cv_handover.proofs.Freezing.{new_move, with_move, owned_freeze, kept_freeze}
@@ -91,10 +91,10 @@ module _ (n : Nets) (w : World) (m : Meaning) (h : History) (i : ℕ) (g : Agree
         };
       }
 
-  froze_to : (l : LiveState) → map.get (w.nodes i).live a ≡ Some l → (b : Bool) → Leads n w m i (freeze_to (w.nodes i) stamp a l to b)
+  froze_to : (l : LiveState) → map.get (w.nodes i).live a ≡ Some l → (b : Bool) → GoesIfFew n w m i (freeze_to (w.nodes i) stamp a l to b)
   froze_to l is false = tt
   froze_to l is true = λ fits. frozen_here l (nat_lt (l.attempt + 1) limit) is
 
-  pub leads_freeze : (x : Option LiveState) → map.get (w.nodes i).live a ≡ x → Leads n w m i (freeze (w.nodes i) stamp a to x)
+  pub leads_freeze : (x : Option LiveState) → map.get (w.nodes i).live a ≡ x → GoesIfFew n w m i (freeze (w.nodes i) stamp a to x)
   leads_freeze None is = tt
   leads_freeze (Some l) is = froze_to l is (is_other_known (w.nodes i) to)

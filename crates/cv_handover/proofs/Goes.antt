@@ -24,8 +24,8 @@ use Rattle.cv_handover.proofs.Places.{at_cases, put, put_cases}
 -- 1. The lemma of a row
 
 -- a row before its numbers are looked at: where they are below the limit
-abbrev pub Leads : Nets → World → Meaning → ℕ → Option Did → Type 0
-Leads n w m i r = IfSome r (λ d. d.fits ≡ true → Goes n w m i d)
+abbrev pub GoesIfFew : Nets → World → Meaning → ℕ → Option Did → Type 0
+GoesIfFew n w m i r = IfSome r (λ d. d.fits ≡ true → Goes n w m i d)
 
 -- 2. A table of a node that changed
 
@@ -168,6 +168,6 @@ goes_bounded n w m i stamp d goes true is =
     }
 
 -- a row whose numbers fit is a step with its stamp too
-pub goes_stamped : (n : Nets) (w : World) (m : Meaning) (i stamp : ℕ) (r : Option Did) → Leads n w m i r → IfSome (stamped stamp r) (Goes n w m i)
+pub goes_stamped : (n : Nets) (w : World) (m : Meaning) (i stamp : ℕ) (r : Option Did) → GoesIfFew n w m i r → IfSome (stamped stamp r) (Goes n w m i)
 goes_stamped n w m i stamp None goes = tt
 goes_stamped n w m i stamp (Some d) goes = goes_bounded n w m i stamp d goes (is_bounded stamp d) refl

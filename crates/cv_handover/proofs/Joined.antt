@@ -6,7 +6,7 @@ use Rattle.std.proofs.lemmas.Option.{same_Some, none-some as none_some, slice_ge
 use Rattle.std.specs.Option.{option_map}
 use Rattle.cv_token.specs.declared.identifiers.AppId.{AppId}
 use Rattle.cv_token.specs.declared.identifiers.ConnId.{ConnId}
-use Rattle.cv_kinds.specs.declared.network.Join.{Join}
+use Rattle.cv_kinds.specs.declared.network.Connection.{Connection}
 use Rattle.cv_kinds.specs.Wired.{IsWired}
 use Rattle.cv_kinds.specs.Net.{Net}
 use Rattle.cv_queue.specs.declared.reader.Subscription.{Subscription}
@@ -29,15 +29,15 @@ found_if true i later h = (i, refl)
 found_if false i later (inl h) = absurd (cc)
 found_if false i later (inr h) = h
 
-inlet_found : (app : AppId) (place : ℕ) (joins : List Join) (actor port c : ℕ) (j : Join) → slice_get joins c ≡ Some j → j.to ≡ actor → j.inp ≡ port → (x : Inlet) × (inlet_of app place joins actor port ≡ Some x)
+inlet_found : (app : AppId) (place : ℕ) (joins : List Connection) (actor port c : ℕ) (j : Connection) → slice_get joins c ≡ Some j → j.to ≡ actor → j.inp ≡ port → (x : Inlet) × (inlet_of app place joins actor port ≡ Some x)
 inlet_found app place [] actor port c j g to inp = absurd (none_some j g)
 inlet_found app place (k ∷ joins) actor port zero j g to inp =
     let same : k ≡ j = same_Some k j g in
-    found_if ((k.to == actor) && (k.inp == port)) _ (inlet_of app (suc place) joins actor port) (inl (ends_are k.to actor k.inp port (ap (λ (x : Join). x.to) same ∙ to) (ap (λ (x : Join). x.inp) same ∙ inp)))
+    found_if ((k.to == actor) && (k.inp == port)) _ (inlet_of app (suc place) joins actor port) (inl (ends_are k.to actor k.inp port (ap (λ (x : Connection). x.to) same ∙ to) (ap (λ (x : Connection). x.inp) same ∙ inp)))
 inlet_found app place (k ∷ joins) actor port (suc c) j g to inp =
     found_if ((k.to == actor) && (k.inp == port)) _ (inlet_of app (suc place) joins actor port) (inr (inlet_found app (suc place) joins actor port c j g to inp))
 
-inlets_at : (app : AppId) (joins : List Join) (actor port count p : ℕ) → p < count → slice_get (inlets_of app joins actor port count) p ≡ Some (inlet_of app 0 joins actor (port + p))
+inlets_at : (app : AppId) (joins : List Connection) (actor port count p : ℕ) → p < count → slice_get (inlets_of app joins actor port count) p ≡ Some (inlet_of app 0 joins actor (port + p))
 inlets_at app joins actor port zero p h = absurd (omega arith)
 inlets_at app joins actor port (suc count) zero h = let e : port ≡ port + 0 = omega arith in ap (λ q. Some (inlet_of app 0 joins actor q)) e
 inlets_at app joins actor port (suc count) (suc p) h =
@@ -45,7 +45,7 @@ inlets_at app joins actor port (suc count) (suc p) h =
     inlets_at app joins actor (suc port) count p (omega arith) ∙ ap (λ q. Some (inlet_of app 0 joins actor q)) e
 
 -- the connection feeds the inport that it names
-pub feeds_there : (app : AppId) (net : Net) (actor count c : ℕ) (j : Join) → IsWired net → slice_get net.connections c ≡ Some j → j.to ≡ actor → j.inp < count → slice_get (map fed_by (inlets_of app net.connections actor 0 count)) j.inp ≡ Some (Some (conn_in app c))
+pub feeds_there : (app : AppId) (net : Net) (actor count c : ℕ) (j : Connection) → IsWired net → slice_get net.connections c ≡ Some j → j.to ≡ actor → j.inp < count → slice_get (map fed_by (inlets_of app net.connections actor 0 count)) j.inp ≡ Some (Some (conn_in app c))
 feeds_there app net actor count c j w g to within =
     let x = inlet_found app 0 net.connections actor j.inp c j g to refl in
     let q = inlet_is app 0 net.connections actor j.inp x.0 x.1 in
@@ -57,23 +57,23 @@ feeds_there app net actor count c j w g to within =
 -- 2. Outports
 
 -- a connection among those that read the port, from place `place` on
-record IsReading (app : AppId) (place : ℕ) (joins : List Join) (actor port c : ℕ) : Type 0 where
+record IsReading (app : AppId) (place : ℕ) (joins : List Connection) (actor port c : ℕ) : Type 0 where
   pub number : ℕ
   pub reads : slice_get (map (λ (s : Subscription). s.conn) (readers_of app place joins actor port)) number ≡ Some (conn_in app (place + c))
 
-reading_if : (b : Bool) (app : AppId) (place : ℕ) (k : Join) (joins : List Join) (actor port c : ℕ) → IsReading app (suc place) joins actor port c → (number : ℕ) × (slice_get (map (λ (s : Subscription). s.conn) (added_if b (new_reader app place k) (readers_of app (suc place) joins actor port))) number ≡ Some (record { app = app; place = suc place + c }))
+reading_if : (b : Bool) (app : AppId) (place : ℕ) (k : Connection) (joins : List Connection) (actor port c : ℕ) → IsReading app (suc place) joins actor port c → (number : ℕ) × (slice_get (map (λ (s : Subscription). s.conn) (added_if b (new_reader app place k) (readers_of app (suc place) joins actor port))) number ≡ Some (record { app = app; place = suc place + c }))
 reading_if true app place k joins actor port c q = (suc q.number, q.reads)
 reading_if false app place k joins actor port c q = (q.number, q.reads)
 
-reading_first : (b : Bool) (app : AppId) (place : ℕ) (k : Join) (joins : List Join) (actor port : ℕ) → b ≡ true → (number : ℕ) × (slice_get (map (λ (s : Subscription). s.conn) (added_if b (new_reader app place k) (readers_of app (suc place) joins actor port))) number ≡ Some (conn_in app place))
+reading_first : (b : Bool) (app : AppId) (place : ℕ) (k : Connection) (joins : List Connection) (actor port : ℕ) → b ≡ true → (number : ℕ) × (slice_get (map (λ (s : Subscription). s.conn) (added_if b (new_reader app place k) (readers_of app (suc place) joins actor port))) number ≡ Some (conn_in app place))
 reading_first true app place k joins actor port is = (0, refl)
 reading_first false app place k joins actor port is = absurd (cc)
 
-reader_found : (app : AppId) (place : ℕ) (joins : List Join) (actor port c : ℕ) (j : Join) → slice_get joins c ≡ Some j → j.from ≡ actor → j.out ≡ port → IsReading app place joins actor port c
+reader_found : (app : AppId) (place : ℕ) (joins : List Connection) (actor port c : ℕ) (j : Connection) → slice_get joins c ≡ Some j → j.from ≡ actor → j.out ≡ port → IsReading app place joins actor port c
 reader_found app place [] actor port c j g from out = absurd (none_some j g)
 reader_found app place (k ∷ joins) actor port zero j g from out =
     let same : k ≡ j = same_Some k j g in
-    let r = reading_first ((k.from == actor) && (k.out == port)) app place k joins actor port (ends_are k.from actor k.out port (ap (λ (x : Join). x.from) same ∙ from) (ap (λ (x : Join). x.out) same ∙ out)) in
+    let r = reading_first ((k.from == actor) && (k.out == port)) app place k joins actor port (ends_are k.from actor k.out port (ap (λ (x : Connection). x.from) same ∙ from) (ap (λ (x : Connection). x.out) same ∙ out)) in
     let e : place ≡ place + 0 = omega arith in
     record { number = r.0; reads = r.1 ∙ ap (λ p. Some (conn_in app p)) e }
 reader_found app place (k ∷ joins) actor port (suc c) j g from out =
@@ -81,7 +81,7 @@ reader_found app place (k ∷ joins) actor port (suc c) j g from out =
     let e : suc place + c ≡ place + suc c = omega arith in
     record { number = r.0; reads = r.1 ∙ ap (λ p. Some (conn_in app p)) e }
 
-outs_at : (app : AppId) (joins : List Join) (actor port count q : ℕ) → q < count → slice_get (outs_of app joins actor port count) q ≡ Some (new_out queue_length (readers_of app 0 joins actor (port + q)))
+outs_at : (app : AppId) (joins : List Connection) (actor port count q : ℕ) → q < count → slice_get (outs_of app joins actor port count) q ≡ Some (new_out queue_length (readers_of app 0 joins actor (port + q)))
 outs_at app joins actor port zero q h = absurd (omega arith)
 outs_at app joins actor port (suc count) zero h = let e : port ≡ port + 0 = omega arith in ap (λ p. Some (new_out queue_length (readers_of app 0 joins actor p))) e
 outs_at app joins actor port (suc count) (suc q) h =
@@ -93,7 +93,7 @@ read_new [] = refl
 read_new (r ∷ rs) = λ z. r.conn ∷ read_new rs z
 
 -- the connection reads the outport that it names
-pub reads_there : (app : AppId) (net : Net) (actor count c : ℕ) (j : Join) → slice_get net.connections c ≡ Some j → j.from ≡ actor → j.out < count → (conns : List ConnId) × (number : ℕ) × (slice_get (map read_by (outs_of app net.connections actor 0 count)) j.out ≡ Some conns) × (slice_get conns number ≡ Some (conn_in app c))
+pub reads_there : (app : AppId) (net : Net) (actor count c : ℕ) (j : Connection) → slice_get net.connections c ≡ Some j → j.from ≡ actor → j.out < count → (conns : List ConnId) × (number : ℕ) × (slice_get (map read_by (outs_of app net.connections actor 0 count)) j.out ≡ Some conns) × (slice_get conns number ≡ Some (conn_in app c))
 reads_there app net actor count c j g from within =
     let r = reader_found app 0 net.connections actor j.out c j g from refl in
     let z : 0 + j.out ≡ j.out = omega arith in

@@ -26,7 +26,7 @@ use Rattle.cv_handover.proofs.Actors.{actor_inlet}
 use Rattle.cv_handover.proofs.Coming.{same_is, lengthens_arrived}
 use Rattle.cv_handover.proofs.Copies.{streams_set}
 use Rattle.cv_handover.proofs.Ends.{seat_stands}
-use Rattle.cv_handover.proofs.Goes.{Goes, Leads, at_here, at_twice}
+use Rattle.cv_handover.proofs.Goes.{Goes, GoesIfFew, at_here, at_twice}
 use Rattle.cv_handover.proofs.Growing.{outlasts_copies, sent_later}
 use Rattle.cv_handover.proofs.Living.{is_here, here_agrees, agree_touched}
 use Rattle.cv_handover.proofs.Standing.{is_at_true}
@@ -184,7 +184,7 @@ module _ (n : Nets) (w : World) (m : Meaning) (h : History) (i : ℕ) (g : Agree
       let q = goes_passed (with_offered y.inlet.port t offered.Taken) (acked_upto x (k + 1)) (Some t) (consumer_gets t k wrote next room small) in
       subst (λ (p : InView). Goes n w m i (passed (w.nodes i) x c l y p (acked_upto x (k + 1)) (Some t))) (sym e) q
 
-  pass_token_goes : x.spot.reader.acked ≤ received y.inlet.port → (t : Option Token) → to_move x.spot.port x.spot.number y.inlet.port ≡ t → Leads n w m i (pass_token (w.nodes i) x c l y t)
+  pass_token_goes : x.spot.reader.acked ≤ received y.inlet.port → (t : Option Token) → to_move x.spot.port x.spot.number y.inlet.port ≡ t → GoesIfFew n w m i (pass_token (w.nodes i) x c l y t)
   pass_token_goes few None is = tt
   pass_token_goes few (Some t) is =
       λ fits.
@@ -200,22 +200,22 @@ module _ (n : Nets) (w : World) (m : Meaning) (h : History) (i : ℕ) (g : Agree
       let shown = subst (λ (j : ℕ). Goes n w m i (passed (w.nodes i) x c l y (moved_in y.inlet.port k (Some t)) (moved_out z.port z.number (Some t)) (if nat_lt j (received y.inlet.port) then None else Some t))) e q in
       subst (λ (r : Option Token). Goes n w m i (passed (w.nodes i) x c l y (moved_in y.inlet.port k r) (moved_out z.port z.number r) (moving x y t))) (sym is) shown
 
-  pass_known_goes : (b : Bool) → nat_le x.spot.reader.acked (received y.inlet.port) ≡ b → Leads n w m i (pass_known (w.nodes i) x c l y b)
+  pass_known_goes : (b : Bool) → nat_le x.spot.reader.acked (received y.inlet.port) ≡ b → GoesIfFew n w m i (pass_known (w.nodes i) x c l y b)
   pass_known_goes false is = tt
   pass_known_goes true is = pass_token_goes (grind (arith, nat_tests, is)) (to_move x.spot.port x.spot.number y.inlet.port) refl
 
 module _ (n : Nets) (w : World) (m : Meaning) (h : History) (i : ℕ) (g : Agree n w.nodes w.frames m h) where
-  pass_into_goes : (conn : ConnId) (x : Outlet) → OutletStands (w.nodes i) conn x → (c : ActorId) (l : LiveState) → map.get (w.nodes i).live c ≡ Some l → (y : Option Seat) → seat_of x.spot.reader.conn 0 l.actor.ins ≡ y → Leads n w m i (pass_into (w.nodes i) x c l y)
+  pass_into_goes : (conn : ConnId) (x : Outlet) → OutletStands (w.nodes i) conn x → (c : ActorId) (l : LiveState) → map.get (w.nodes i).live c ≡ Some l → (y : Option Seat) → seat_of x.spot.reader.conn 0 l.actor.ins ≡ y → GoesIfFew n w m i (pass_into (w.nodes i) x c l y)
   pass_into_goes conn x o c l live None is = tt
   pass_into_goes conn x o c l live (Some y) is =
       let s = seat_stands x.spot.reader.conn 0 l.actor.ins y is in
       let p : y.inp ≡ s.place = omega (arith, s.placed) in
       pass_known_goes n w m h i g conn x o c l live y (ap (slice_get l.actor.ins) p ∙ s.stands) (same_is y.inlet.conn x.spot.reader.conn s.is_it) (nat_le x.spot.reader.acked (received y.inlet.port)) refl
 
-  pass_to_goes : (conn : ConnId) (x : Outlet) → OutletStands (w.nodes i) conn x → (c : ActorId) (l : Option LiveState) → map.get (w.nodes i).live c ≡ l → Leads n w m i (pass_to (w.nodes i) x c l)
+  pass_to_goes : (conn : ConnId) (x : Outlet) → OutletStands (w.nodes i) conn x → (c : ActorId) (l : Option LiveState) → map.get (w.nodes i).live c ≡ l → GoesIfFew n w m i (pass_to (w.nodes i) x c l)
   pass_to_goes conn x o c None live = tt
   pass_to_goes conn x o c (Some l) live = pass_into_goes conn x o c l live (seat_of x.spot.reader.conn 0 l.actor.ins) refl
 
-  pub pass_goes : (conn : ConnId) (x : Option Outlet) → outlet (w.nodes i) conn ≡ x → Leads n w m i (pass (w.nodes i) x)
+  pub pass_goes : (conn : ConnId) (x : Option Outlet) → outlet (w.nodes i) conn ≡ x → GoesIfFew n w m i (pass (w.nodes i) x)
   pass_goes conn None is = tt
   pass_goes conn (Some x) is = pass_to_goes conn x (outlet_stands (w.nodes i) conn x is) x.spot.reader.consumer (map.get (w.nodes i).live x.spot.reader.consumer) refl

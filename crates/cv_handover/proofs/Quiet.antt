@@ -20,7 +20,7 @@ use Rattle.cv_protocol.specs.NodeRow.{lose}
 use Rattle.cv_handover.specs.World.{World}
 use Rattle.cv_handover.specs.Meaning.{Nets, Meaning}
 use Rattle.cv_handover.specs.Agree.{copy_of, History, IsCopy, IsVerdict, SaysTrue, Agree}
-use Rattle.cv_handover.proofs.Goes.{Goes, Leads, Shows, agree_shown}
+use Rattle.cv_handover.proofs.Goes.{Goes, GoesIfFew, Shows, agree_shown}
 use Rattle.cv_handover.proofs.Growing.{sent_one}
 use Rattle.cv_handover.proofs.Raising.{Rewinds, rewinds_agree, rewinds_raise}
 use Rattle.cv_handover.proofs.Living.{at_same, goes_still}
@@ -46,15 +46,15 @@ module _ (n : Nets) (w : World) (m : Meaning) (h : History) (i : ℕ) (g : Agree
   pub goes_sending : (f : Frame) → SaysTrue m h f f.body → Goes n w m i (sends_alone (w.nodes i) f)
   goes_sending f says = goes_still n w m h i g (f ∷ []) (sent_one m h f w.frames says g.sent)
 
-  pub leads_meet : (node : ℕ) (attrs : Attrs) (b : Bool) → Leads n w m i (meet (w.nodes i) node attrs b)
+  pub leads_meet : (node : ℕ) (attrs : Attrs) (b : Bool) → GoesIfFew n w m i (meet (w.nodes i) node attrs b)
   leads_meet node attrs false = tt
   leads_meet node attrs true = λ fits. goes_shown _ (record { number = refl; deployed = refl; live = refl; frozen = refl; judged = refl })
 
-  pub leads_tick : (now : ℕ) (b : Bool) → Leads n w m i (tick (w.nodes i) now b)
+  pub leads_tick : (now : ℕ) (b : Bool) → GoesIfFew n w m i (tick (w.nodes i) now b)
   leads_tick now false = tt
   leads_tick now true = λ fits. goes_shown _ (record { number = refl; deployed = refl; live = refl; frozen = refl; judged = refl })
 
-  pub leads_lose : (b : Bool) → Leads n w m i (lose (w.nodes i) b)
+  pub leads_lose : (b : Bool) → GoesIfFew n w m i (lose (w.nodes i) b)
   leads_lose false = tt
   leads_lose true = λ fits. goes_nothing
 
@@ -63,7 +63,7 @@ module _ (n : Nets) (w : World) (m : Meaning) (h : History) (i : ℕ) (g : Agree
   copy_here : (a : ActorId) (f : Frozen) → map.get (w.nodes i).moves.frozen a ≡ Some f → IsCopy m.owner h a i (copy_of f)
   copy_here a f is = g.kept.frozen_ok i a (copy_of f) (ap (option_map copy_of) is)
 
-  pub leads_resend : (stamp : ℕ) (a : ActorId) (x : Option Frozen) → map.get (w.nodes i).moves.frozen a ≡ x → Leads n w m i (resend (w.nodes i) stamp a x)
+  pub leads_resend : (stamp : ℕ) (a : ActorId) (x : Option Frozen) → map.get (w.nodes i).moves.frozen a ≡ x → GoesIfFew n w m i (resend (w.nodes i) stamp a x)
   leads_resend stamp a None is = tt
   leads_resend stamp a (Some f) is =
       let c = copy_here a f is in
@@ -74,7 +74,7 @@ module _ (n : Nets) (w : World) (m : Meaning) (h : History) (i : ℕ) (g : Agree
         state = c.state;
       })
 
-  pub leads_withdraw : (stamp : ℕ) (a : ActorId) (x : Option Frozen) → map.get (w.nodes i).moves.frozen a ≡ x → Leads n w m i (withdraw (w.nodes i) stamp a x)
+  pub leads_withdraw : (stamp : ℕ) (a : ActorId) (x : Option Frozen) → map.get (w.nodes i).moves.frozen a ≡ x → GoesIfFew n w m i (withdraw (w.nodes i) stamp a x)
   leads_withdraw stamp a None is = tt
   leads_withdraw stamp a (Some f) is =
       let c = copy_here a f is in

@@ -13,7 +13,7 @@ use Rattle.cv_table.proofs.Views.{same_actor-cases}
 use Rattle.cv_behave.specs.declared.behave.Effect.{Effect}
 use Rattle.cv_behave.specs.KindRow.{Row, needed, given_at, guard_holds, has_counts, head_at, heads_of, effect_of, is_ready}
 use Rattle.cv_kinds.specs.declared.network.ActorSpec.{ActorSpec}
-use Rattle.cv_kinds.specs.declared.network.Join.{Join}
+use Rattle.cv_kinds.specs.declared.network.Connection.{Connection}
 use Rattle.cv_kinds.specs.Net.{Net}
 use Rattle.cv_kinds.specs.Wired.{IsWired, HasInport, HasOutport}
 use Rattle.cv_kinds.specs.KindRow.{row_of}
@@ -31,16 +31,16 @@ use Rattle.cv_handover.proofs.Firing.{need_in}
 
 -- 1. What waits at the inports
 
-wait_if : (m : Meaning) (app : AppId) (place : ℕ) (j : Join) (rest : List Token) (later : Option Inlet) (b : Bool) → rest ≡ waiting m (fed_by later) → (if b then drop (m.took (conn_in app place)) (m.wrote (conn_in app place)) else rest) ≡ waiting m (fed_by (if b then Some (new_inlet app place j) else later))
+wait_if : (m : Meaning) (app : AppId) (place : ℕ) (j : Connection) (rest : List Token) (later : Option Inlet) (b : Bool) → rest ≡ waiting m (fed_by later) → (if b then drop (m.took (conn_in app place)) (m.wrote (conn_in app place)) else rest) ≡ waiting m (fed_by (if b then Some (new_inlet app place j) else later))
 wait_if m app place j rest later true e = refl
 wait_if m app place j rest later false e = e
 
-waits_same : (m : Meaning) (app : AppId) (place : ℕ) (joins : List Join) (actor port : ℕ) → waits joins (listed (stream_in m app) place (length joins)) actor port ≡ waiting m (fed_by (inlet_of app place joins actor port))
+waits_same : (m : Meaning) (app : AppId) (place : ℕ) (joins : List Connection) (actor port : ℕ) → waits joins (listed (stream_in m app) place (length joins)) actor port ≡ waiting m (fed_by (inlet_of app place joins actor port))
 waits_same m app place [] actor port = refl
 waits_same m app place (j ∷ joins) actor port =
     wait_if m app place j (waits joins (listed (stream_in m app) (suc place) (length joins)) actor port) (inlet_of app (suc place) joins actor port) ((j.to == actor) && (j.inp == port)) (waits_same m app (suc place) joins actor port)
 
-inputs_same : (m : Meaning) (app : AppId) (joins : List Join) (actor port count : ℕ) → inputs_from joins (listed (stream_in m app) 0 (length joins)) actor port count ≡ map (λ i. waiting m (fed_by i)) (inlets_of app joins actor port count)
+inputs_same : (m : Meaning) (app : AppId) (joins : List Connection) (actor port count : ℕ) → inputs_from joins (listed (stream_in m app) 0 (length joins)) actor port count ≡ map (λ i. waiting m (fed_by i)) (inlets_of app joins actor port count)
 inputs_same m app joins actor port zero = refl
 inputs_same m app joins actor port (suc count) = λ z. waits_same m app 0 joins actor port z ∷ inputs_same m app joins actor (suc port) count z
 
@@ -70,12 +70,12 @@ outport_there net k p spec e h = subst (λ (s : Option ActorSpec). HasOutport s 
 
 -- 2. One stream after the firing
 
-module _ (n : Nets) (m : Meaning) (a : ActorId) (action : ℕ) (wired : IsWired (n.net a.app)) (spec : ActorSpec) (stands : slice_get (n.net a.app).actors a.actor ≡ Some spec) (ready : may_fire n m a action ≡ true) (c : ℕ) (j : Join) (is : slice_get (n.net a.app).connections c ≡ Some j) where
+module _ (n : Nets) (m : Meaning) (a : ActorId) (action : ℕ) (wired : IsWired (n.net a.app)) (spec : ActorSpec) (stands : slice_get (n.net a.app).actors a.actor ≡ Some spec) (ready : may_fire n m a action ≡ true) (c : ℕ) (j : Connection) (is : slice_get (n.net a.app).connections c ≡ Some j) where
   same_spec : spec_of n a ≡ spec
   same_spec = ap (λ (s : Option ActorSpec). unwrap_or s n.nobody) stands
 
   -- the connection stands there in the network
-  same_place : (k : Join) → slice_get (n.net a.app).connections c ≡ Some k → k ≡ j
+  same_place : (k : Connection) → slice_get (n.net a.app).connections c ≡ Some k → k ≡ j
   same_place k e = same_Some k j (sym e ∙ is)
 
   wait_at : (x : Option (Option Inlet)) (d : ConnId) → option_map fed_by x ≡ Some (Some d) → option_map (λ i. waiting m (fed_by i)) x ≡ Some (drop (m.took d) (m.wrote d))
@@ -102,8 +102,8 @@ module _ (n : Nets) (m : Meaning) (a : ActorId) (action : ℕ) (wired : IsWired 
       let d : ConnId = conn_in a.app c in
       let f = fed_place n a q.place d q.feeds in
       let k : f.0.join ≡ j = same_place f.0.join f.0.stands in
-      let to : j.to ≡ a.actor = ap (λ (x : Join). x.to) (sym k) ∙ f.1 in
-      let inp : j.inp ≡ q.place = ap (λ (x : Join). x.inp) (sym k) ∙ f.2 in
+      let to : j.to ≡ a.actor = ap (λ (x : Connection). x.to) (sym k) ∙ f.1 in
+      let inp : j.inp ≡ q.place = ap (λ (x : Connection). x.inp) (sym k) ∙ f.2 in
       let z : 0 + q.place ≡ q.place = omega arith in
       let few = count_there (row_of (spec_of n a).kind) (spec_of n a).args action 0 (waiting_all n m a) q.place (drop (m.took d) (m.wrote d)) counts_there (waits_there q.place q.feeds) in
       let same : need_in n a action (0 + q.place) ≡ needed (row_of spec.kind) spec.args action j.inp = ap (need_in n a action) (z ∙ sym inp) ∙ ap (λ (s : ActorSpec). needed (row_of s.kind) s.args action j.inp) same_spec in
@@ -132,8 +132,8 @@ module _ (n : Nets) (m : Meaning) (a : ActorId) (action : ℕ) (wired : IsWired 
       let d : ConnId = conn_in a.app c in
       let f = read_place n a q.place d (record { conns = q.conns; port = q.port; number = q.number; reads = q.reads }) in
       let k : f.0.join ≡ j = same_place f.0.join f.0.stands in
-      let from : j.from ≡ a.actor = ap (λ (x : Join). x.from) (sym k) ∙ f.1 in
-      let at_out : j.out ≡ q.place = ap (λ (x : Join). x.out) (sym k) ∙ f.2 in
+      let from : j.from ≡ a.actor = ap (λ (x : Connection). x.from) (sym k) ∙ f.1 in
+      let at_out : j.out ≡ q.place = ap (λ (x : Connection). x.out) (sym k) ∙ f.2 in
       given_if out (gift_of out (fresh n a).outs d) (j.from == a.actor) refl (λ t. ap (given_at out) at_out ∙ ap option_to_list (sym (given_there q.place out)) ∙ sym q.given) (λ other. absurd (other from))
 
   -- a connection of the actor reads one of its outports
@@ -158,7 +158,7 @@ module _ (n : Nets) (m : Meaning) (a : ActorId) (action : ℕ) (wired : IsWired 
 
 -- 3. The runtime after it
 
-streams_same : (spec : ActorSpec) (actor action : ℕ) (out : List (Option Token)) (f g : ℕ → Stream) (from : ℕ) (joins : List Join) → ((c : ℕ) (j : Join) → slice_get joins c ≡ Some j → stream_after spec actor action out j (f (from + c)) ≡ g (from + c)) → streams_after spec actor action out joins (listed f from (length joins)) ≡ listed g from (length joins)
+streams_same : (spec : ActorSpec) (actor action : ℕ) (out : List (Option Token)) (f g : ℕ → Stream) (from : ℕ) (joins : List Connection) → ((c : ℕ) (j : Connection) → slice_get joins c ≡ Some j → stream_after spec actor action out j (f (from + c)) ≡ g (from + c)) → streams_after spec actor action out joins (listed f from (length joins)) ≡ listed g from (length joins)
 streams_same spec actor action out f g from [] same = refl
 streams_same spec actor action out f g from (j ∷ joins) same =
     let e : from + 0 ≡ from = omega arith in

@@ -19,7 +19,7 @@ use Rattle.cv_handover.proofs.Applications.{goes_destroyed, leads_destroy, leads
 use Rattle.cv_handover.proofs.Arriving.{goes_transfer, goes_cancel}
 use Rattle.cv_handover.proofs.Coming.{token_goes, ack_goes, nack_goes}
 use Rattle.cv_handover.proofs.Departing.{leads_freeze}
-use Rattle.cv_handover.proofs.Goes.{Goes, Leads, goes_stamped}
+use Rattle.cv_handover.proofs.Goes.{Goes, GoesIfFew, goes_stamped}
 use Rattle.cv_handover.proofs.Passing.{pass_goes}
 use Rattle.cv_handover.proofs.Quiet.{leads_meet, leads_tick, leads_lose, leads_resend, leads_withdraw, goes_hint, number_same}
 use Rattle.cv_handover.proofs.Using.{peek_goes, fire_goes, send_goes, rewind_goes}
@@ -41,13 +41,13 @@ module _ (n : Nets) (w : World) (m : Meaning) (h : History) (i : ℕ) (g : Agree
   addressed : (f : Frame) (low : Bool) → (f.to == (w.nodes i).spec.no) && low ≡ true → f.to ≡ i
   addressed f low is = number_same f.to (w.nodes i).spec.no (and_parts (f.to == (w.nodes i).spec.no) low is).0 ∙ g.numbered.number i
 
-  deliver_leads : (stamp : ℕ) (f : Frame) → SaysTrue m h f f.body → (b : Bool) → (f.to == (w.nodes i).spec.no) && nat_lt f.stamp limit ≡ b → Leads n w m i (deliver (w.nodes i) stamp f b)
+  deliver_leads : (stamp : ℕ) (f : Frame) → SaysTrue m h f f.body → (b : Bool) → (f.to == (w.nodes i).spec.no) && nat_lt f.stamp limit ≡ b → GoesIfFew n w m i (deliver (w.nodes i) stamp f b)
   deliver_leads stamp f says false is = tt
   deliver_leads stamp f says true is = λ fits. comes_goes stamp f (addressed f (nat_lt f.stamp limit) is) f.body says fits
 
   -- 2. Every event
 
-  attempted_leads : (stamp : ℕ) (e : Event) → Came w e → CarriesNet n (w.nodes i) e → Leads n w m i (attempted (w.nodes i) stamp e)
+  attempted_leads : (stamp : ℕ) (e : Event) → Came w e → CarriesNet n (w.nodes i) e → GoesIfFew n w m i (attempted (w.nodes i) stamp e)
   attempted_leads stamp (event.Meet node attrs) came carries = leads_meet n w m h i g node attrs (is_node node)
   attempted_leads stamp (event.Deploy name net) came carries = leads_deploy n w m h i g name net carries (nat_lt (w.nodes i).known.deployed most_applications)
   attempted_leads stamp (event.Tick now) came carries = leads_tick n w m h i g now (nat_le (w.nodes i).now now && nat_lt now limit)

@@ -25,7 +25,7 @@ use Rattle.cv_handover.specs.Agree.{History, ActorAgrees, Agree}
 use Rattle.cv_handover.proofs.Actors.{actor_inlet, actor_out}
 use Rattle.cv_handover.proofs.Ends.{SpotStands, spot_stands}
 use Rattle.cv_handover.proofs.Firing.{ready_there, streams_fired, kept_behind}
-use Rattle.cv_handover.proofs.Goes.{Goes, Leads}
+use Rattle.cv_handover.proofs.Goes.{Goes, GoesIfFew}
 use Rattle.cv_handover.proofs.Growing.{Lengthens, outlasts_copies, sent_later, sent_one}
 use Rattle.cv_handover.proofs.Living.{is_here, here_agrees, means_here, goes_live, goes_used}
 use Rattle.cv_handover.proofs.Polling.{CanRead, CanFire, poll_fires, poll_holds}
@@ -86,7 +86,7 @@ module _ (n : Nets) (w : World) (m : Meaning) (h : History) (i : ℕ) (g : Agree
 
   -- 2. Peek
 
-  peek_inlet_goes : (a : ActorId) (l : LiveState) (port count : ℕ) → map.get (w.nodes i).live a ≡ Some l → CanRead l.actor port count → (x : Option Inlet) → inlet_at l port ≡ x → Leads n w m i (peek_inlet (w.nodes i) a l port count x)
+  peek_inlet_goes : (a : ActorId) (l : LiveState) (port count : ℕ) → map.get (w.nodes i).live a ≡ Some l → CanRead l.actor port count → (x : Option Inlet) → inlet_at l port ≡ x → GoesIfFew n w m i (peek_inlet (w.nodes i) a l port count x)
   peek_inlet_goes a l port count e can None is = tt
   peek_inlet_goes a l port count e can (Some x) is =
       λ fits.
@@ -95,16 +95,16 @@ module _ (n : Nets) (w : World) (m : Meaning) (h : History) (i : ℕ) (g : Agree
       let new : Inlet = record x { port = after_peek x.port count } in
       goes_used n w m h i g a l e (with_inlet l port new) refl (actor_inlet n m a l.actor port x new q stands refl (in_peek m x count (q.ins port x stands) (can.enough (Some x) stands))) [] true g.sent
 
-  peek_at_goes : (a : ActorId) (l : LiveState) (port count : ℕ) → map.get (w.nodes i).live a ≡ Some l → CanRead l.actor port count → (b : Bool) → Leads n w m i (peek_at (w.nodes i) a l port count b)
+  peek_at_goes : (a : ActorId) (l : LiveState) (port count : ℕ) → map.get (w.nodes i).live a ≡ Some l → CanRead l.actor port count → (b : Bool) → GoesIfFew n w m i (peek_at (w.nodes i) a l port count b)
   peek_at_goes a l port count e can false = tt
   peek_at_goes a l port count e can true = peek_inlet_goes a l port count e can (inlet_at l port) refl
 
-  peek_by_goes : (a : ActorId) (l : LiveState) (port : ℕ) → map.get (w.nodes i).live a ≡ Some l → (x : Answer) → poll l (w.nodes i).now ≡ x → Leads n w m i (peek_by (w.nodes i) a l port x)
+  peek_by_goes : (a : ActorId) (l : LiveState) (port : ℕ) → map.get (w.nodes i).live a ≡ Some l → (x : Answer) → poll l (w.nodes i).now ≡ x → GoesIfFew n w m i (peek_by (w.nodes i) a l port x)
   peek_by_goes a l port e (Fired action) is = tt
   peek_by_goes a l port e (Held held count) is = peek_at_goes a l held count e (poll_holds l (w.nodes i).now held count is) (held == port)
   peek_by_goes a l port e (Waiting lacks) is = tt
 
-  pub peek_goes : (a : ActorId) (port : ℕ) (l : Option LiveState) → map.get (w.nodes i).live a ≡ l → Leads n w m i (peek (w.nodes i) a port l)
+  pub peek_goes : (a : ActorId) (port : ℕ) (l : Option LiveState) → map.get (w.nodes i).live a ≡ l → GoesIfFew n w m i (peek (w.nodes i) a port l)
   peek_goes a port None e = tt
   peek_goes a port (Some l) e = peek_by_goes a l port e (poll l (w.nodes i).now) refl
 
@@ -124,25 +124,25 @@ module _ (n : Nets) (w : World) (m : Meaning) (h : History) (i : ℕ) (g : Agree
       let ready = ready_there n m h.copy g.streams a l.actor action (here_agrees n m h i a l here g.streams) can in
       goes_live n w m h i g a l e now refl (fires n m a action) refl (Fired_action a action) (means_here n m i a (Fired_action a action) here.owner ∙ ap (fires_if n m a action) ready) [] (live_fits now) (streams_fired n m h.copy g.streams a l.actor action here.actor can outs_fit) (sent_later m (fires n m a action) h h w.frames (lengthens_fired a action) (outlasts_copies h h.copy) g.sent)
 
-  fire_at_goes : (a : ActorId) (l : LiveState) (action : ℕ) → map.get (w.nodes i).live a ≡ Some l → (first : ℕ) → CanFire l.actor first → (b : Bool) → (first == action) ≡ b → Leads n w m i (fire_at (w.nodes i) a l action b)
+  fire_at_goes : (a : ActorId) (l : LiveState) (action : ℕ) → map.get (w.nodes i).live a ≡ Some l → (first : ℕ) → CanFire l.actor first → (b : Bool) → (first == action) ≡ b → GoesIfFew n w m i (fire_at (w.nodes i) a l action b)
   fire_at_goes a l action e first can false is = tt
   fire_at_goes a l action e first can true is =
       λ fits.
       let same : first ≡ action = grind (arith, nat_tests, is) in
       fired_goes a l action e (subst (CanFire l.actor) same can) fits
 
-  fire_by_goes : (a : ActorId) (l : LiveState) (action : ℕ) → map.get (w.nodes i).live a ≡ Some l → (x : Answer) → poll l (w.nodes i).now ≡ x → Leads n w m i (fire_by (w.nodes i) a l action x)
+  fire_by_goes : (a : ActorId) (l : LiveState) (action : ℕ) → map.get (w.nodes i).live a ≡ Some l → (x : Answer) → poll l (w.nodes i).now ≡ x → GoesIfFew n w m i (fire_by (w.nodes i) a l action x)
   fire_by_goes a l action e (Fired first) is = fire_at_goes a l action e first (poll_fires l (w.nodes i).now first is) (first == action) refl
   fire_by_goes a l action e (Held port count) is = tt
   fire_by_goes a l action e (Waiting lacks) is = tt
 
-  pub fire_goes : (a : ActorId) (action : ℕ) (l : Option LiveState) → map.get (w.nodes i).live a ≡ l → Leads n w m i (fire (w.nodes i) a action l)
+  pub fire_goes : (a : ActorId) (action : ℕ) (l : Option LiveState) → map.get (w.nodes i).live a ≡ l → GoesIfFew n w m i (fire (w.nodes i) a action l)
   fire_goes a action None e = tt
   fire_goes a action (Some l) e = fire_by_goes a l action e (poll l (w.nodes i).now) refl
 
   -- 4. Send
 
-  send_token_goes : (stamp : ℕ) (conn : ConnId) (x : Outlet) (node window k : ℕ) → OutletStands (w.nodes i) conn x → next_number x.spot.port x.spot.number window ≡ Some k → (t : Option Token) → token_for x.spot.port x.spot.number k ≡ t → Leads n w m i (send_token (w.nodes i) stamp x node k t)
+  send_token_goes : (stamp : ℕ) (conn : ConnId) (x : Outlet) (node window k : ℕ) → OutletStands (w.nodes i) conn x → next_number x.spot.port x.spot.number window ≡ Some k → (t : Option Token) → token_for x.spot.port x.spot.number k ≡ t → GoesIfFew n w m i (send_token (w.nodes i) stamp x node k t)
   send_token_goes stamp conn x node window k o next None is = tt
   send_token_goes stamp conn x node window k o next (Some t) is =
       λ fits.
@@ -156,25 +156,25 @@ module _ (n : Nets) (w : World) (m : Meaning) (h : History) (i : ℕ) (g : Agree
       let frame : Frame = frame_to (w.nodes i) stamp node (body.Token z.reader.conn z.reader.consumer k t) in
       goes_used n w m h i g a x.live o.live (with_out x.live z.out (after_sent z.port z.number)) refl (actor_follows n m a x.live.actor z.out z.port (after_sent z.port z.number) q stands f) (frame ∷ []) true (sent_one m h frame w.frames says g.sent)
 
-  send_number_goes : (stamp : ℕ) (conn : ConnId) (x : Outlet) (node window : ℕ) → OutletStands (w.nodes i) conn x → (k : Option ℕ) → next_number x.spot.port x.spot.number window ≡ k → Leads n w m i (send_number (w.nodes i) stamp x node k)
+  send_number_goes : (stamp : ℕ) (conn : ConnId) (x : Outlet) (node window : ℕ) → OutletStands (w.nodes i) conn x → (k : Option ℕ) → next_number x.spot.port x.spot.number window ≡ k → GoesIfFew n w m i (send_number (w.nodes i) stamp x node k)
   send_number_goes stamp conn x node window o None is = tt
   send_number_goes stamp conn x node window o (Some k) is = send_token_goes stamp conn x node window k o is (token_for x.spot.port x.spot.number k) refl
 
-  send_away_goes : (stamp : ℕ) (conn : ConnId) (x : Outlet) (node : ℕ) → OutletStands (w.nodes i) conn x → (b : Bool) → Leads n w m i (send_away (w.nodes i) stamp x node b)
+  send_away_goes : (stamp : ℕ) (conn : ConnId) (x : Outlet) (node : ℕ) → OutletStands (w.nodes i) conn x → (b : Bool) → GoesIfFew n w m i (send_away (w.nodes i) stamp x node b)
   send_away_goes stamp conn x node o true = tt
   send_away_goes stamp conn x node o false = send_number_goes stamp conn x node (w.nodes i).spec.window o (next_number x.spot.port x.spot.number (w.nodes i).spec.window) refl
 
-  send_to_goes : (stamp : ℕ) (conn : ConnId) (x : Outlet) → OutletStands (w.nodes i) conn x → (t : Option Location) → Leads n w m i (send_to (w.nodes i) stamp x t)
+  send_to_goes : (stamp : ℕ) (conn : ConnId) (x : Outlet) → OutletStands (w.nodes i) conn x → (t : Option Location) → GoesIfFew n w m i (send_to (w.nodes i) stamp x t)
   send_to_goes stamp conn x o None = tt
   send_to_goes stamp conn x o (Some t) = send_away_goes stamp conn x t.node o (t.node == (w.nodes i).spec.no)
 
-  pub send_goes : (stamp : ℕ) (conn : ConnId) (x : Option Outlet) → outlet (w.nodes i) conn ≡ x → Leads n w m i (send (w.nodes i) stamp x)
+  pub send_goes : (stamp : ℕ) (conn : ConnId) (x : Option Outlet) → outlet (w.nodes i) conn ≡ x → GoesIfFew n w m i (send (w.nodes i) stamp x)
   send_goes stamp conn None is = tt
   send_goes stamp conn (Some x) is = send_to_goes stamp conn x (outlet_stands (w.nodes i) conn x is) (map.get (w.nodes i).hints x.spot.reader.consumer)
 
   -- 5. Rewind
 
-  pub rewind_goes : (conn : ConnId) (x : Option Outlet) → outlet (w.nodes i) conn ≡ x → Leads n w m i (rewind (w.nodes i) x)
+  pub rewind_goes : (conn : ConnId) (x : Option Outlet) → outlet (w.nodes i) conn ≡ x → GoesIfFew n w m i (rewind (w.nodes i) x)
   rewind_goes conn None is = tt
   rewind_goes conn (Some x) is =
       λ fits.

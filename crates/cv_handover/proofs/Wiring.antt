@@ -7,7 +7,7 @@ use Rattle.std.proofs.lemmas.Option.{same_Some, none-some as none_some}
 use Rattle.cv_token.specs.declared.identifiers.AppId.{AppId}
 use Rattle.cv_token.specs.declared.identifiers.ActorId.{ActorId}
 use Rattle.cv_token.specs.declared.identifiers.ConnId.{ConnId}
-use Rattle.cv_kinds.specs.declared.network.Join.{Join}
+use Rattle.cv_kinds.specs.declared.network.Connection.{Connection}
 use Rattle.cv_queue.specs.declared.reader.Reader.{Reader}
 use Rattle.cv_queue.specs.declared.reader.Subscription.{Subscription}
 use Rattle.cv_queue.specs.Ports.{OutView, new_out, new_in, reader_from}
@@ -20,25 +20,25 @@ abbrev pub conn_in : AppId → ℕ → ConnId
 conn_in app place = record { app = app; place = place }
 
 -- the inport that the connection at a place feeds, and the reader of it, at the start
-abbrev pub new_inlet : AppId → ℕ → Join → Inlet
+abbrev pub new_inlet : AppId → ℕ → Connection → Inlet
 new_inlet app place j = record { conn = conn_in app place; producer = record { app = app; actor = j.from }; port = new_in queue_length }
 
-abbrev pub new_reader : AppId → ℕ → Join → Subscription
+abbrev pub new_reader : AppId → ℕ → Connection → Subscription
 new_reader app place j = record { conn = conn_in app place; consumer = record { app = app; actor = j.to }; acked = 0 }
 
 -- 1. Inports of an actor at its start
 
 -- the inport is new, and a connection of the network feeds it
-pub record IsInletOf (app : AppId) (place : ℕ) (joins : List Join) (actor port : ℕ) (i : Inlet) : Type 0 where
+pub record IsInletOf (app : AppId) (place : ℕ) (joins : List Connection) (actor port : ℕ) (i : Inlet) : Type 0 where
   pub number : ℕ
-  pub join : Join
+  pub join : Connection
   pub stands : slice_get joins number ≡ Some join
   pub conn : i.conn ≡ conn_in app (place + number)
   pub to : join.to ≡ actor
   pub inp : join.inp ≡ port
   pub new : i.port ≡ new_in queue_length
 
-inlet_later : (app : AppId) (place : ℕ) (j : Join) (joins : List Join) (actor port : ℕ) (i : Inlet) → IsInletOf app (suc place) joins actor port i → IsInletOf app place (j ∷ joins) actor port i
+inlet_later : (app : AppId) (place : ℕ) (j : Connection) (joins : List Connection) (actor port : ℕ) (i : Inlet) → IsInletOf app (suc place) joins actor port i → IsInletOf app place (j ∷ joins) actor port i
 inlet_later app place j joins actor port i q =
     let e : suc place + q.number ≡ place + suc q.number = omega arith in
     record {
@@ -51,7 +51,7 @@ inlet_later app place j joins actor port i q =
       new = q.new;
     }
 
-inlet_first : (app : AppId) (place : ℕ) (j : Join) (joins : List Join) (actor port : ℕ) (i : Inlet) (b : Bool) → (j.to == actor) && (j.inp == port) ≡ b → (if b then Some (new_inlet app place j) else inlet_of app (suc place) joins actor port) ≡ Some i → (inlet_of app (suc place) joins actor port ≡ Some i → IsInletOf app (suc place) joins actor port i) → IsInletOf app place (j ∷ joins) actor port i
+inlet_first : (app : AppId) (place : ℕ) (j : Connection) (joins : List Connection) (actor port : ℕ) (i : Inlet) (b : Bool) → (j.to == actor) && (j.inp == port) ≡ b → (if b then Some (new_inlet app place j) else inlet_of app (suc place) joins actor port) ≡ Some i → (inlet_of app (suc place) joins actor port ≡ Some i → IsInletOf app (suc place) joins actor port i) → IsInletOf app place (j ∷ joins) actor port i
 inlet_first app place j joins actor port i false is e later = inlet_later app place j joins actor port i (later e)
 inlet_first app place j joins actor port i true is e later =
     let both = and_parts (j.to == actor) (j.inp == port) is in
@@ -69,12 +69,12 @@ inlet_first app place j joins actor port i true is e later =
     } in
     subst (IsInletOf app place (j ∷ joins) actor port) (same_Some _ i e) q
 
-pub inlet_is : (app : AppId) (place : ℕ) (joins : List Join) (actor port : ℕ) (i : Inlet) → inlet_of app place joins actor port ≡ Some i → IsInletOf app place joins actor port i
+pub inlet_is : (app : AppId) (place : ℕ) (joins : List Connection) (actor port : ℕ) (i : Inlet) → inlet_of app place joins actor port ≡ Some i → IsInletOf app place joins actor port i
 inlet_is app place [] actor port i e = absurd (none_some i e)
 inlet_is app place (j ∷ joins) actor port i e =
     inlet_first app place j joins actor port i ((j.to == actor) && (j.inp == port)) refl e (inlet_is app (suc place) joins actor port i)
 
-pub inlets_are : (app : AppId) (joins : List Join) (actor port count p : ℕ) (i : Inlet) → slice_get (inlets_of app joins actor port count) p ≡ Some (Some i) → IsInletOf app 0 joins actor (port + p) i
+pub inlets_are : (app : AppId) (joins : List Connection) (actor port count p : ℕ) (i : Inlet) → slice_get (inlets_of app joins actor port count) p ≡ Some (Some i) → IsInletOf app 0 joins actor (port + p) i
 inlets_are app joins actor port zero p i e = absurd (none_some (Some i) e)
 inlets_are app joins actor port (suc count) zero i e =
     let k : port ≡ port + 0 = omega arith in
@@ -83,22 +83,22 @@ inlets_are app joins actor port (suc count) (suc p) i e =
     let k : suc port + p ≡ port + suc p = omega arith in
     subst (λ (q : ℕ). IsInletOf app 0 joins actor q i) k (inlets_are app joins actor (suc port) count p i e)
 
-pub inlets_count : (app : AppId) (joins : List Join) (actor port count : ℕ) → length (inlets_of app joins actor port count) ≡ count
+pub inlets_count : (app : AppId) (joins : List Connection) (actor port count : ℕ) → length (inlets_of app joins actor port count) ≡ count
 inlets_count app joins actor port zero = refl
 inlets_count app joins actor port (suc count) = ap suc (inlets_count app joins actor (suc port) count)
 
 -- 2. Outports
 
 -- the reader is one of a connection of the network from there
-pub record IsReaderOf (app : AppId) (place : ℕ) (joins : List Join) (actor port : ℕ) (s : Subscription) : Type 0 where
+pub record IsReaderOf (app : AppId) (place : ℕ) (joins : List Connection) (actor port : ℕ) (s : Subscription) : Type 0 where
   pub number : ℕ
-  pub join : Join
+  pub join : Connection
   pub stands : slice_get joins number ≡ Some join
   pub conn : s.conn ≡ conn_in app (place + number)
   pub from : join.from ≡ actor
   pub out : join.out ≡ port
 
-reader_later : (app : AppId) (place : ℕ) (j : Join) (joins : List Join) (actor port : ℕ) (s : Subscription) → IsReaderOf app (suc place) joins actor port s → IsReaderOf app place (j ∷ joins) actor port s
+reader_later : (app : AppId) (place : ℕ) (j : Connection) (joins : List Connection) (actor port : ℕ) (s : Subscription) → IsReaderOf app (suc place) joins actor port s → IsReaderOf app place (j ∷ joins) actor port s
 reader_later app place j joins actor port s q =
     let e : suc place + q.number ≡ place + suc q.number = omega arith in
     record {
@@ -110,7 +110,7 @@ reader_later app place j joins actor port s q =
       out = q.out;
     }
 
-reader_first : (app : AppId) (place : ℕ) (j : Join) (joins : List Join) (actor port k : ℕ) (s : Subscription) (b : Bool) → (j.from == actor) && (j.out == port) ≡ b → slice_get (added_if b (new_reader app place j) (readers_of app (suc place) joins actor port)) k ≡ Some s → ((l : ℕ) → slice_get (readers_of app (suc place) joins actor port) l ≡ Some s → IsReaderOf app (suc place) joins actor port s) → IsReaderOf app place (j ∷ joins) actor port s
+reader_first : (app : AppId) (place : ℕ) (j : Connection) (joins : List Connection) (actor port k : ℕ) (s : Subscription) (b : Bool) → (j.from == actor) && (j.out == port) ≡ b → slice_get (added_if b (new_reader app place j) (readers_of app (suc place) joins actor port)) k ≡ Some s → ((l : ℕ) → slice_get (readers_of app (suc place) joins actor port) l ≡ Some s → IsReaderOf app (suc place) joins actor port s) → IsReaderOf app place (j ∷ joins) actor port s
 reader_first app place j joins actor port k s false is e later = reader_later app place j joins actor port s (later k e)
 reader_first app place j joins actor port (suc k) s true is e later = reader_later app place j joins actor port s (later k e)
 reader_first app place j joins actor port zero s true is e later =
@@ -128,12 +128,12 @@ reader_first app place j joins actor port zero s true is e later =
     } in
     subst (IsReaderOf app place (j ∷ joins) actor port) (same_Some _ s e) q
 
-reader_is : (app : AppId) (place : ℕ) (joins : List Join) (actor port k : ℕ) (s : Subscription) → slice_get (readers_of app place joins actor port) k ≡ Some s → IsReaderOf app place joins actor port s
+reader_is : (app : AppId) (place : ℕ) (joins : List Connection) (actor port k : ℕ) (s : Subscription) → slice_get (readers_of app place joins actor port) k ≡ Some s → IsReaderOf app place joins actor port s
 reader_is app place [] actor port k s e = absurd (none_some s e)
 reader_is app place (j ∷ joins) actor port k s e =
     reader_first app place j joins actor port k s ((j.from == actor) && (j.out == port)) refl e (λ l f. reader_is app (suc place) joins actor port l s f)
 
-pub outs_are : (app : AppId) (joins : List Join) (actor port count q : ℕ) (o : OutView) → slice_get (outs_of app joins actor port count) q ≡ Some o → o ≡ new_out queue_length (readers_of app 0 joins actor (port + q))
+pub outs_are : (app : AppId) (joins : List Connection) (actor port count q : ℕ) (o : OutView) → slice_get (outs_of app joins actor port count) q ≡ Some o → o ≡ new_out queue_length (readers_of app 0 joins actor (port + q))
 outs_are app joins actor port zero q o e = absurd (none_some o e)
 outs_are app joins actor port (suc count) zero o e =
     let k : port ≡ port + 0 = omega arith in
@@ -158,7 +158,7 @@ pub record ReadAt (n : Nets) (a : ActorId) (q : ℕ) (c : ConnId) : Type 0 where
 -- the connection of the network that it is
 pub record IsPlace (n : Nets) (a : ActorId) (c : ConnId) : Type 0 where
   pub app : c.app ≡ a.app
-  pub join : Join
+  pub join : Connection
   pub stands : slice_get (n.net a.app).connections c.place ≡ Some join
 
 pub fed_is : (i : Option Inlet) (c : ConnId) → fed_by i ≡ Some c → (x : Inlet) × (i ≡ Some x) × (x.conn ≡ c)
@@ -213,11 +213,11 @@ one_seat n a b p q c f g =
     let s = fed_place n a p c f in
     let t = fed_place n b q c g in
     let j = same_join n a b c s.0 t.0 in
-    (same_id a b j.0 (sym s.1 ∙ ap (λ (k : Join). k.to) j.1 ∙ t.1), sym s.2 ∙ ap (λ (k : Join). k.inp) j.1 ∙ t.2)
+    (same_id a b j.0 (sym s.1 ∙ ap (λ (k : Connection). k.to) j.1 ∙ t.1), sym s.2 ∙ ap (λ (k : Connection). k.inp) j.1 ∙ t.2)
 
 pub one_outlet : (n : Nets) (a b : ActorId) (p q : ℕ) (c : ConnId) → ReadAt n a p c → ReadAt n b q c → (a ≡ b) × (p ≡ q)
 one_outlet n a b p q c f g =
     let s = read_place n a p c f in
     let t = read_place n b q c g in
     let j = same_join n a b c s.0 t.0 in
-    (same_id a b j.0 (sym s.1 ∙ ap (λ (k : Join). k.from) j.1 ∙ t.1), sym s.2 ∙ ap (λ (k : Join). k.out) j.1 ∙ t.2)
+    (same_id a b j.0 (sym s.1 ∙ ap (λ (k : Connection). k.from) j.1 ∙ t.1), sym s.2 ∙ ap (λ (k : Connection). k.out) j.1 ∙ t.2)

@@ -3,7 +3,7 @@ use Rattle.std.specs.Prelude.{◌≡◌, ℕ, ◌≤◌, List, ◌++◌, length,
 use Rattle.cv_token.specs.declared.identifiers.AppId.{AppId}
 use Rattle.cv_kahn.specs.Determined.{Determined}
 use Rattle.cv_kahn.specs.Streams.{Prefix, wrote_at}
-use Rattle.cv_kinds.specs.declared.network.Join.{Join}
+use Rattle.cv_kinds.specs.declared.network.Connection.{Connection}
 use Rattle.cv_kinds.specs.Wired.{IsWired}
 use Rattle.cv_solo.specs.PlainNetwork.{plain}
 use Rattle.cv_protocol.specs.declared.event.Step.{Step}
@@ -23,4 +23,4 @@ pub record GetsRounds (n : Nets) (openings : ℕ → NodeState) (start : Meaning
 -- for each determined connection of a wired network, and at least as many rounds as the application has recorded firings
 abbrev pub DeterminedGetRounds : Nets → (ℕ → NodeState) → Meaning → List Step → Type 0
 DeterminedGetRounds n openings start m =
-    (begins rest : List Step) (app : AppId) (rounds c : ℕ) (j : Join) → m ≡ begins ++ rest → IsWired (n.net app) → slice_get (n.net app).connections c ≡ Some j → Determined (n.net app) j.from → length (firings app begins) ≤ rounds → GetsRounds n openings start begins app rounds c
+    (begins rest : List Step) (app : AppId) (rounds c : ℕ) (j : Connection) → m ≡ begins ++ rest → IsWired (n.net app) → slice_get (n.net app).connections c ≡ Some j → Determined (n.net app) j.from → length (firings app begins) ≤ rounds → GetsRounds n openings start begins app rounds c

@@ -16,7 +16,7 @@ use Rattle.cv_http.specs.Fields.{body_of}
 use Rattle.cv_http.specs.Fronts.{IsHeadOf, ForMore}
 use Rattle.cv_http.specs.declared.front.Front.{Front}
 use Rattle.cv_http.specs.declared.front.Front.TheVariants as F
-use Rattle.cv_http.specs.Requests.{Spells, HasFault, Stands, Due}
+use Rattle.cv_http.specs.Requests.{SpellsRequest, HasFault, Stands, Due}
 use Rattle.cv_http.specs.declared.front.Head.{Head}
 use Rattle.cv_http.specs.declared.fault.HttpFault.{HttpFault}
 use Rattle.cv_http.specs.declared.fault.HttpFault.TheVariants.{BadHead, HeadTooLong, BodyTooLong, Coding, BadLength, OutOfMemory}
@@ -30,7 +30,7 @@ use Rattle.cv_http.proofs.FieldLemmas.{body_fault, body_most}
 
 -- a window with no head that is not full, where a fault of the head may wait
 pub silent_open : (bytes : List ℕ) → is_full bytes ≡ false → HasNoHead bytes → (NeverHasRequest (window bytes) → MayWait bytes)
-    → IsSilent Spells Due bytes
+    → IsSilent SpellsRequest Due bytes
 silent_open bytes room none wait = (
   λ m front rest s e. no_head s.head (m.body ++ rest) (spells_begins m front bytes rest s e),
   not_due,
@@ -48,13 +48,13 @@ silent_open bytes room none wait = (
     not_due OutOfMemory due = due
 
 -- a head whose body has not come whole
-pub waits_body : (bytes : List ℕ) (p : Head) → IsHeadOf bytes p → Waits Spells Due (p.len + p.body) bytes
+pub waits_body : (bytes : List ℕ) (p : Head) → IsHeadOf bytes p → Waits SpellsRequest Due (p.len + p.body) bytes
 waits_body bytes p is more short = (no_request, not_due)
   where
     begins : Begins (bytes ++ more) is.head (is.rest ++ more)
     begins = begins_more bytes more is.head is.rest is.begins
 
-    no_request : HasNone Spells (bytes ++ more)
+    no_request : HasNone SpellsRequest (bytes ++ more)
     no_request m front rest s e =
         let same = begins_unique (bytes ++ more) is.head s.head (is.rest ++ more) (m.body ++ rest) begins
         (spells_begins m front (bytes ++ more) rest s e) in
@@ -85,7 +85,7 @@ waits_body bytes p is more short = (no_request, not_due)
 -- a head with its body behind it
 pub request_of : (bytes : List ℕ) (p : Head) → IsHeadOf bytes p → (r : Request) → p.len + p.body ≤ length bytes
     → r.method ≡ p.method.now → r.path ≡ p.path.now → r.body ≡ take p.body (drop p.len bytes) → r.close ≡ p.close
-    → Spells r (take (p.len + p.body) bytes)
+    → SpellsRequest r (take (p.len + p.body) bytes)
 request_of bytes p is r fits method path body close =
     let text = print_request is.head in
     let behind : drop p.len bytes ≡ is.rest = ap (drop p.len) is.begins.1 ∙ drop_at text is.rest p.len (sym is.len) in
@@ -140,11 +140,11 @@ fault_stands OutOfMemory bytes h rest b e = absurd (body_fault (pairs_of h) OutO
 -- where the window has no head and is not full, more is waited for
 pub more_open : (bytes : List ℕ) (full : Bool) (r : Front) → full ≡ is_full bytes → r ≡ cond full (F.Fault HeadTooLong) F.More
     → HasNoHead bytes → (NeverHasRequest (window bytes) → MayWait bytes)
-    → ForMore r (IsSilent Spells Due bytes × (length bytes < MOST_HEAD))
+    → ForMore r (IsSilent SpellsRequest Due bytes × (length bytes < MOST_HEAD))
 more_open bytes true r is e none wait =
-    subst (λ q. ForMore q (IsSilent Spells Due bytes × (length bytes < MOST_HEAD))) (sym e) tt
+    subst (λ q. ForMore q (IsSilent SpellsRequest Due bytes × (length bytes < MOST_HEAD))) (sym e) tt
 more_open bytes false r is e none wait =
-    subst (λ q. ForMore q (IsSilent Spells Due bytes × (length bytes < MOST_HEAD))) (sym e)
+    subst (λ q. ForMore q (IsSilent SpellsRequest Due bytes × (length bytes < MOST_HEAD))) (sym e)
     (silent_open bytes (sym is) none wait, window_short bytes (sym is))
 
 -- how long the parts of a request are

@@ -6,7 +6,7 @@ use Rattle.httparse.specs.Grammar.{RequestHead, print_request, ReadsRequest, Nev
 use Rattle.cv_http.specs.Windows.{window, is_full}
 use Rattle.cv_http.specs.Heads.{Begins, pairs_of, HasNoHead}
 use Rattle.cv_http.specs.Fields.{body_of, closes}
-use Rattle.cv_http.specs.Requests.{IsOfHead, HasOneFault, Spells, HasFault, Stands}
+use Rattle.cv_http.specs.Requests.{IsOfHead, HasOneFault, SpellsRequest, HasFault, Stands}
 use Rattle.cv_http.specs.declared.fault.HttpFault.{HttpFault}
 use Rattle.cv_http.specs.declared.fault.HttpFault.TheVariants.{BadHead, HeadTooLong, BodyTooLong, Coding, BadLength, OutOfMemory}
 use Rattle.cv_http.specs.declared.request.Request.{Request}
@@ -14,14 +14,14 @@ use Rattle.cv_http.specs.WindowLaws.{window_more, window_full}
 use Rattle.cv_http.specs.HeadLaws.{head_in_window, begins_unique, begins_more, head_some}
 
 -- the head of a request that begins the bytes
-pub spells_begins : (r : Request) (front bytes rest : List ℕ) (s : Spells r front) → bytes ≡ front ++ rest
+pub spells_begins : (r : Request) (front bytes rest : List ℕ) (s : SpellsRequest r front) → bytes ≡ front ++ rest
     → Begins bytes s.head (r.body ++ rest)
 spells_begins r front bytes rest s e = (
   s.begins.0,
   e ∙ ap (λ (t : List ℕ). t ++ rest) s.begins.1 ∙ append_assoc (print_request s.head) r.body rest,
 )
 
-pub one : (m n : Request) (a b x y : List ℕ) → Spells m a → Spells n b → a ++ x ≡ b ++ y → (m ≡ n) × (x ≡ y)
+pub one : (m n : Request) (a b x y : List ℕ) → SpellsRequest m a → SpellsRequest n b → a ++ x ≡ b ++ y → (m ≡ n) × (x ≡ y)
 one m n a b x y s t e =
     let same = begins_unique (a ++ x) s.head t.head (m.body ++ x) (n.body ++ y)
     (spells_begins m a (a ++ x) x s refl) (spells_begins n b (a ++ x) y t e) in
@@ -37,7 +37,7 @@ one m n a b x y s t e =
     let closed : m.close ≡ n.close = s.close ∙ ap (λ h. closes h.minor (pairs_of h)) same.0 ∙ sym t.close in
     (λ i. record { method = methods i; path = paths i; body = bodies i; close = closed i }, rests)
 
-pub some : (m : Request) (bytes : List ℕ) → Spells m bytes → 0 < length bytes
+pub some : (m : Request) (bytes : List ℕ) → SpellsRequest m bytes → 0 < length bytes
 some m bytes s =
     let printed = ap length s.begins.1 ∙ length-append (print_request s.head) m.body in
     omega (arith, printed, head_some s.head s.begins.0)
@@ -65,7 +65,7 @@ full_head bytes more h rest full none b =
     let reads = head_in_window (bytes ++ more) h rest b in
     none h reads.0 (subst (λ (w : List ℕ). ReadsRequest w h reads.0) (window_full bytes more full) reads.1) b.0.few
 
-pub stuck : (f : HttpFault) (m : Request) (bytes more front rest : List ℕ) → Stands f bytes → Spells m front
+pub stuck : (f : HttpFault) (m : Request) (bytes more front rest : List ℕ) → Stands f bytes → SpellsRequest m front
     → ¬ (bytes ++ more ≡ front ++ rest)
 stuck BadHead m bytes more front rest stands s e =
     never_head bytes more s.head (m.body ++ rest) stands (spells_begins m front (bytes ++ more) rest s e)

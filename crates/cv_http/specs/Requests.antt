@@ -9,7 +9,7 @@ use Rattle.cv_http.specs.declared.fault.HttpFault.TheVariants.{BadHead, HeadTooL
 use Rattle.cv_http.specs.declared.request.Request.{Request}
 
 -- these bytes are this request, whole: a head, and a body of the length that its fields tell
-pub record Spells (r : Request) (bytes : List ℕ) : Type 0 where
+pub record SpellsRequest (r : Request) (bytes : List ℕ) : Type 0 where
   pub head : RequestHead
   pub begins : Begins bytes head r.body
   pub whole : body_of (pairs_of head) ≡ Ok (length r.body)
@@ -43,7 +43,7 @@ Due OutOfMemory bytes = ⊥
 -- where a fault stands no request begins, whatever follows
 abbrev pub HasNoRequests : Type 0
 HasNoRequests =
-    (f : HttpFault) (r : Request) (bytes more front rest : List ℕ) → Stands f bytes → Spells r front
+    (f : HttpFault) (r : Request) (bytes more front rest : List ℕ) → Stands f bytes → SpellsRequest r front
     → ¬ (bytes ++ more ≡ front ++ rest)
 
 -- a fault of the head itself

@@ -2,7 +2,7 @@
 
 ghost use Rattle.std.specs.Prelude.{◌≡◌, ◌≢◌, ◌<◌, ◌+◌, ◌↔◌, [], ◌++◌, None, Some, Ok, Err, length, option_to_list, IfNone, IfSome, IsOkAnd, OnOk, IsTrue};
 ghost use Rattle.cv_feed.specs.Streams.{HasNone, IsSilent, Takes};
-ghost use Rattle.cv_http.specs.Requests.{Spells, Stands, Due};
+ghost use Rattle.cv_http.specs.Requests.{SpellsRequest, Stands, Due};
 ghost use Rattle.cv_http.specs.declared.window.TheConstants.{MOST_HEAD};
 ghost use Rattle.cv_http.specs.declared.length.TheConstants.{MOST_BODY};
 
@@ -44,11 +44,11 @@ impl Feed {
     pub fn push(&mut self, alloc: Global, piece: &[u8]) -> Result<(), HttpFault>
         // The requests of the stream so far are read, and no fault stands behind them; what is left is bounded.
         ensures ok { OnOk result ((self.old.fault ≡ None) × (self.new.fault ≡ None)
-            × IsSilent Spells Due self.new.rest × (length self.new.rest < MOST_HEAD + MOST_BODY)) }
+            × IsSilent SpellsRequest Due self.new.rest × (length self.new.rest < MOST_HEAD + MOST_BODY)) }
         ensures told { (f : HttpFault) → self.old.fault ≡ None → result ≡ Err f → f ≢ HttpFault.OutOfMemory
             → (self.new.fault ≡ Some f) × Stands f self.new.rest }
         ensures requests { self.old.fault ≡ None → result ≢ Err HttpFault.OutOfMemory
-            → Takes Spells self.old.waiting self.new.waiting (self.old.rest ++ piece.now) self.new.rest }
+            → Takes SpellsRequest self.old.waiting self.new.waiting (self.old.rest ++ piece.now) self.new.rest }
 
         // A fault that was told is told again; then, and where memory is wanting, nothing changes.
         ensures again { IfSome self.old.fault (λ f. result ≡ Err f) }
@@ -64,7 +64,7 @@ impl Feed {
     /// The next request that was read and not taken.
     pub fn take(&mut self) -> Option<Request>
         ensures requests { self.old.waiting ≡ option_to_list result ++ self.new.waiting }
-        ensures none { IfNone result ((self.old.waiting ≡ []) × HasNone Spells self.old.rest) }
+        ensures none { IfNone result ((self.old.waiting ≡ []) × HasNone SpellsRequest self.old.rest) }
         ensures rest { self.new.rest ≡ self.old.rest }
         ensures fault { self.new.fault ≡ self.old.fault }
     {

@@ -51,7 +51,7 @@ impl Format for Requests {
     ghost use Rattle.cv_http.specs.declared.length.TheConstants.{MOST_BODY};
     ghost use Rattle.cv_http.specs.RequestLaws as laws;
 
-    ghost Spells = { requests.Spells };
+    ghost Spells = { requests.SpellsRequest };
 
     ghost Stands = { requests.Stands };
 

@@ -2,7 +2,7 @@
 
 ghost use Rattle.std.specs.Prelude.{◌≡◌, ◌<◌, length, if◌then◌else◌};
 ghost use Rattle.cv_http.specs.Fronts.{IsHeadOf, ForHead, ForFault, ForMore};
-ghost use Rattle.cv_http.specs.Requests.{Spells, Stands, Due};
+ghost use Rattle.cv_http.specs.Requests.{SpellsRequest, Stands, Due};
 ghost use Rattle.cv_http.specs.declared.window.TheConstants.{MOST_HEAD};
 ghost use Rattle.cv_feed.specs.Streams.{IsSilent};
 
@@ -48,7 +48,7 @@ fn no_head(full: bool) -> Front<'static>
 pub(crate) fn front_of(bytes: &[u8]) -> Front<'_>
     ensures head { ForHead result (IsHeadOf bytes.now) }
     ensures fault { ForFault result (λ f. Stands f bytes.now) }
-    ensures more { ForMore result (IsSilent Spells Due bytes.now × (length bytes.now < MOST_HEAD)) }
+    ensures more { ForMore result (IsSilent SpellsRequest Due bytes.now × (length bytes.now < MOST_HEAD)) }
 {
     let window = window_of(bytes);
     let seen = &bytes[..window.len];

@@ -2,21 +2,21 @@
 
 ghost use Rattle.cv_feed.specs.Streams.{HasOneReading, ReadsByPieces};
 ghost use Rattle.std.specs.Prelude.{ℕ, List};
-ghost use Rattle.cv_http.specs.Requests.{Spells, HasNoRequests, HasOneFault};
+ghost use Rattle.cv_http.specs.Requests.{SpellsRequest, HasNoRequests, HasOneFault};
 ghost use Rattle.cv_http.specs.Windows.{window, IsWindow};
 
 use crate::format::Requests;
 
 /// A stream has one reading up to where no request stands whole, so what a feed reads does not depend on the cut.
 pub fn one_reading()
-    ensures { HasOneReading Spells }
+    ensures { HasOneReading SpellsRequest }
 {
     cv_feed::one_reading::<Requests>();
 }
 
 /// A reading of a first piece and one of what it left with the second piece are one reading of both.
 pub fn any_cut()
-    ensures { ReadsByPieces Spells }
+    ensures { ReadsByPieces SpellsRequest }
 {
     cv_feed::any_cut::<Requests>();
 }

@@ -10,10 +10,10 @@ use Rattle.cv_io.specs.declared.sink.Took.{Took}
 use Rattle.cv_io.specs.declared.sink.Took.TheVariants as took
 
 -- a read gave the next bytes at the front of the buffer, or it came to the end, or it failed and all is left
-abbrev pub Gives : Option (List ℕ) → Option (List ℕ) → List ℕ → Got → Type 0
-Gives old new buf (got.Bytes n) = (0 < n) × (n ≤ length buf) × Consumes old new (take n buf)
-Gives old new buf got.End = Keeps old new × IsAtEnd new
-Gives old new buf got.Failed = Keeps old new
+abbrev pub GivesBytes : Option (List ℕ) → Option (List ℕ) → List ℕ → Got → Type 0
+GivesBytes old new buf (got.Bytes n) = (0 < n) × (n ≤ length buf) × Consumes old new (take n buf)
+GivesBytes old new buf got.End = Keeps old new × IsAtEnd new
+GivesBytes old new buf got.Failed = Keeps old new
 
 -- a write took bytes from the front of the piece, or it failed and took nothing
 abbrev pub Takes : Option (List ℕ) → Option (List ℕ) → List ℕ → Took → Type 0

@@ -2,7 +2,7 @@
 
 ghost use Rattle.std.specs.Prelude.{◌≡◌, ◌<◌, ◌≤◌, length};
 ghost use Rattle.cv_io.specs.Adapter.{reader_of, failed_reads, writer_of, failed_writes, CountsRead, CountsWrite};
-ghost use Rattle.cv_io.specs.Bytes.{Gives, Takes, CountsReads, CountsWrites};
+ghost use Rattle.cv_io.specs.Bytes.{GivesBytes, Takes, CountsReads, CountsWrites};
 
 use crate::sink::{Sink, Took};
 use crate::source::{Got, Source};
@@ -33,7 +33,7 @@ impl<R: Read> Source for StdSource<R> {
     fn read(&mut self, buf: &mut [u8]) -> Got
         requires { 0 < length buf.old }
         ensures later { failed_reads self.old ≤ failed_reads self.new }
-        ensures bytes { Gives (R.remaining (reader_of self.old)) (R.remaining (reader_of self.new)) buf.new result }
+        ensures bytes { GivesBytes (R.remaining (reader_of self.old)) (R.remaining (reader_of self.new)) buf.new result }
         ensures count { CountsReads (failed_reads self.old) (failed_reads self.new) result }
         ensures once { CountsRead (failed_reads self.old) (failed_reads self.new) result }
     {

@@ -1,7 +1,7 @@
 //! A source and a sink in memory, which give and take bytes in small pieces and fail at stated calls.
 
 ghost use Rattle.std.specs.Prelude.{◌≡◌, ◌<◌, ◌≤◌, [], Some, length, min, take};
-ghost use Rattle.cv_io.specs.Bytes.{Gives, Takes, CountsReads, CountsWrites};
+ghost use Rattle.cv_io.specs.Bytes.{GivesBytes, Takes, CountsReads, CountsWrites};
 ghost use Rattle.cv_io.specs.Memory.{ReadsMemory, WritesMemory, opened, IsOpened};
 
 use crate::sink::{Sink, Took};
@@ -63,7 +63,7 @@ impl Source for MemSource {
     fn read(&mut self, buf: &mut [u8]) -> Got
         requires { 0 < length buf.old }
         ensures later { self.old.faults ≤ self.new.faults }
-        ensures bytes { Gives (Some self.old.bytes) (Some self.new.bytes) buf.new result }
+        ensures bytes { GivesBytes (Some self.old.bytes) (Some self.new.bytes) buf.new result }
         ensures count { CountsReads self.old.faults self.new.faults result }
         ensures call { ReadsMemory self.old self.new (length buf.old) result }
     {

@@ -16,7 +16,7 @@ pub enum Got {
 
 /// What gives bytes, in pieces of any size.
 pub trait Source {
-    ghost use Rattle.cv_io.specs.Bytes.{Gives, CountsReads};
+    ghost use Rattle.cv_io.specs.Bytes.{GivesBytes, CountsReads};
 
     /// The bytes still to come, or None where the source doesn't tell.
     ghost left: { Self → Option (List ℕ) };
@@ -28,6 +28,6 @@ pub trait Source {
     fn read(&mut self, buf: &mut [u8]) -> Got
         requires { 0 < length buf.old }
         ensures later { faults self.old ≤ faults self.new }
-        ensures bytes { Gives (left self.old) (left self.new) buf.new result }
+        ensures bytes { GivesBytes (left self.old) (left self.new) buf.new result }
         ensures count { CountsReads (faults self.old) (faults self.new) result };
 }

@@ -5,7 +5,7 @@ use Rattle.std.proofs.lemmas.List.{append-nil}
 use Rattle.cv_token.specs.declared.token.Token.{Token}
 use Rattle.cv_behave.specs.KindRow.{Deterministic, given_at}
 use Rattle.cv_kinds.specs.declared.network.ActorSpec.{ActorSpec}
-use Rattle.cv_kinds.specs.declared.network.Join.{Join}
+use Rattle.cv_kinds.specs.declared.network.Connection.{Connection}
 use Rattle.cv_kinds.specs.KindRow.{row_of}
 use Rattle.cv_kinds.specs.Net.{Net}
 use Rattle.cv_solo.specs.OneRuntime.{given_on}
@@ -14,11 +14,11 @@ use Rattle.cv_kahn.proofs.Rows.{Longer}
 use Rattle.cv_kahn.proofs.Alone.{Behind, Local, behind_end, behind_first, behind_gives, behind_more, can, can_more, does, next, next_more, one_action}
 
 -- what the family gives to a connection: all that its outport was given
-abbrev pub sent : Net → ℕ → Join → (ℕ → Local) → List Token
+abbrev pub sent : Net → ℕ → Connection → (ℕ → Local) → List Token
 sent net c j x = (x j.from).gave j.out
 
 -- what it gives to an inport, among the connections from number c on
-abbrev pub fed_from : Net → ℕ → List Join → (ℕ → Local) → ℕ → ℕ → List Token
+abbrev pub fed_from : Net → ℕ → List Connection → (ℕ → Local) → ℕ → ℕ → List Token
 fed_from net c [] x a port = []
 fed_from net c (j ∷ js) x a port = if (j.to == a) && (j.inp == port) then sent net c j x else fed_from net (suc c) js x a port
 
@@ -40,8 +40,8 @@ Ahead net D x y = (a : ℕ) (spec : ActorSpec) → D a → slice_get net.actors 
 -- the actors in D are deterministic, and what feeds them is in D and is there
 pub record Region (net : Net) (D : ℕ → Type 0) : Type 0 where
   pub alone : (a : ℕ) (spec : ActorSpec) → D a → slice_get net.actors a ≡ Some spec → Deterministic (row_of spec.kind)
-  pub closed : (c : ℕ) (j : Join) → slice_get net.connections c ≡ Some j → D j.to → D j.from
-  pub there : (c : ℕ) (j : Join) → slice_get net.connections c ≡ Some j → (spec : ActorSpec) × (slice_get net.actors j.from ≡ Some spec)
+  pub closed : (c : ℕ) (j : Connection) → slice_get net.connections c ≡ Some j → D j.to → D j.from
+  pub there : (c : ℕ) (j : Connection) → slice_get net.connections c ≡ Some j → (spec : ActorSpec) × (slice_get net.actors j.from ≡ Some spec)
 
 -- ---- choices
 
@@ -53,51 +53,51 @@ pub both_if : {X Y : Type 0} (P : X → Y → Type 0) (test : Bool) (v u : X) (w
 both_if P true v u w z holds fails = holds refl
 both_if P false v u w z holds fails = fails refl
 
-pub same_ends : (j : Join) (a port : ℕ) → ((j.to == a) && (j.inp == port)) ≡ true → (j.to ≡ a) × (j.inp ≡ port)
+pub same_ends : (j : Connection) (a port : ℕ) → ((j.to == a) && (j.inp == port)) ≡ true → (j.to ≡ a) × (j.inp ≡ port)
 same_ends j a port test = let parts = and_parts (j.to == a) (j.inp == port) test in (eqb-true j.to a parts.0, eqb-true j.inp port parts.1)
 
 -- ---- what is given to an inport
 
 -- a fact of each connection of a list whose first one has number c
-abbrev pub EachFrom : ℕ → List Join → (ℕ → Join → Type 0) → Type 0
-EachFrom c js P = (d e : ℕ) (j : Join) → slice_get js d ≡ Some j → c + d ≡ e → P e j
+abbrev pub EachFrom : ℕ → List Connection → (ℕ → Connection → Type 0) → Type 0
+EachFrom c js P = (d e : ℕ) (j : Connection) → slice_get js d ≡ Some j → c + d ≡ e → P e j
 
-pub each_first : (c : ℕ) (j : Join) (js : List Join) (P : ℕ → Join → Type 0) → EachFrom c (j ∷ js) P → P c j
+pub each_first : (c : ℕ) (j : Connection) (js : List Connection) (P : ℕ → Connection → Type 0) → EachFrom c (j ∷ js) P → P c j
 each_first c j js P each = let same : c + 0 ≡ c = omega arith in each 0 c j refl same
 
-pub each_rest : (c : ℕ) (j : Join) (js : List Join) (P : ℕ → Join → Type 0) → EachFrom c (j ∷ js) P → EachFrom (suc c) js P
+pub each_rest : (c : ℕ) (j : Connection) (js : List Connection) (P : ℕ → Connection → Type 0) → EachFrom c (j ∷ js) P → EachFrom (suc c) js P
 each_rest c j js P each d e k at number = let same : c + suc d ≡ e = omega (arith, number) in each (suc d) e k at same
 
-fed_less_from : (net : Net) (x y : ℕ → Local) (a port c : ℕ) (js : List Join) → EachFrom c js (λ e j. j.to ≡ a → Prefix (sent net e j x) (sent net e j y)) → Prefix (fed_from net c js x a port) (fed_from net c js y a port)
+fed_less_from : (net : Net) (x y : ℕ → Local) (a port c : ℕ) (js : List Connection) → EachFrom c js (λ e j. j.to ≡ a → Prefix (sent net e j x) (sent net e j y)) → Prefix (fed_from net c js x a port) (fed_from net c js y a port)
 fed_less_from net x y a port c [] each = ([], refl)
 fed_less_from net x y a port c (j ∷ js) each =
     both_if Prefix ((j.to == a) && (j.inp == port)) (sent net c j x) (fed_from net (suc c) js x a port) (sent net c j y) (fed_from net (suc c) js y a port)
     (λ test. each_first c j js (λ e k. k.to ≡ a → Prefix (sent net e k x) (sent net e k y)) each (same_ends j a port test).0)
     (λ test. fed_less_from net x y a port (suc c) js (each_rest c j js (λ e k. k.to ≡ a → Prefix (sent net e k x) (sent net e k y)) each))
 
-pub in_all : (net : Net) (P : ℕ → Join → Type 0) → ((c : ℕ) (j : Join) → slice_get net.connections c ≡ Some j → P c j) → EachFrom 0 net.connections P
+pub in_all : (net : Net) (P : ℕ → Connection → Type 0) → ((c : ℕ) (j : Connection) → slice_get net.connections c ≡ Some j → P c j) → EachFrom 0 net.connections P
 in_all net P each d e j at number = let same : d ≡ e = omega (arith, number) in each e j (subst (λ (i : ℕ). slice_get net.connections i ≡ Some j) same at)
 
 -- where each connection into an actor is given a prefix, each inport is
-pub fed_less : (net : Net) (x y : ℕ → Local) (a : ℕ) → ((c : ℕ) (j : Join) → slice_get net.connections c ≡ Some j → j.to ≡ a → Prefix (sent net c j x) (sent net c j y)) → Longer (fed net x a) (fed net y a)
+pub fed_less : (net : Net) (x y : ℕ → Local) (a : ℕ) → ((c : ℕ) (j : Connection) → slice_get net.connections c ≡ Some j → j.to ≡ a → Prefix (sent net c j x) (sent net c j y)) → Longer (fed net x a) (fed net y a)
 fed_less net x y a each port = fed_less_from net x y a port 0 net.connections (in_all net (λ e j. j.to ≡ a → Prefix (sent net e j x) (sent net e j y)) each)
 
 -- the family that is ahead gives at least as much to the connections of the region
-pub ahead_sent : (net : Net) (D : ℕ → Type 0) (x y : ℕ → Local) (c : ℕ) (j : Join) → Region net D → Ahead net D x y → slice_get net.connections c ≡ Some j → D j.from → Prefix (sent net c j x) (sent net c j y)
+pub ahead_sent : (net : Net) (D : ℕ → Type 0) (x y : ℕ → Local) (c : ℕ) (j : Connection) → Region net D → Ahead net D x y → slice_get net.connections c ≡ Some j → D j.from → Prefix (sent net c j x) (sent net c j y)
 ahead_sent net D x y c j region ahead at leads = let from = region.there c j at in behind_gives from.0 (fed net y j.from) (x j.from) (y j.from) j.out (ahead j.from from.0 leads from.1)
 
 pub ahead_fed : (net : Net) (D : ℕ → Type 0) (x y : ℕ → Local) (a : ℕ) → Region net D → Ahead net D x y → D a → Longer (fed net x a) (fed net y a)
 ahead_fed net D x y a region ahead leads =
     fed_less net x y a (λ c j at to. ahead_sent net D x y c j region ahead at (region.closed c j at (subst D (sym to) leads)))
 
-sent_after_if : (net : Net) (spec : ActorSpec) (x : ℕ → Local) (b k c : ℕ) (j : Join) (test : Bool) → (j.from == b) ≡ test → (if test then next spec (fed net x b) (x b) k else x j.from).gave j.out ≡ (x j.from).gave j.out ++ (if test then given_at (does spec (fed net x b) (x b) k).out j.out else [])
+sent_after_if : (net : Net) (spec : ActorSpec) (x : ℕ → Local) (b k c : ℕ) (j : Connection) (test : Bool) → (j.from == b) ≡ test → (if test then next spec (fed net x b) (x b) k else x j.from).gave j.out ≡ (x j.from).gave j.out ++ (if test then given_at (does spec (fed net x b) (x b) k).out j.out else [])
 sent_after_if net spec x b k c j true test =
     let same : b ≡ j.from = sym (eqb-true j.from b test) in
     ap (λ (i : ℕ). (x i).gave j.out ++ given_at (does spec (fed net x b) (x b) k).out j.out) same
 sent_after_if net spec x b k c j false test = sym (append-nil ((x j.from).gave j.out))
 
 -- what an actor's firing adds to a connection
-pub sent_after : (net : Net) (spec : ActorSpec) (x : ℕ → Local) (b k c : ℕ) (j : Join) → sent net c j (after net spec x b k) ≡ sent net c j x ++ given_on (does spec (fed net x b) (x b) k).out b j
+pub sent_after : (net : Net) (spec : ActorSpec) (x : ℕ → Local) (b k c : ℕ) (j : Connection) → sent net c j (after net spec x b k) ≡ sent net c j x ++ given_on (does spec (fed net x b) (x b) k).out b j
 sent_after net spec x b k c j = sent_after_if net spec x b k c j (j.from == b) refl
 
 -- after a firing each inport is given at least as much

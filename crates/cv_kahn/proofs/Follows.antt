@@ -10,14 +10,14 @@ use Rattle.cv_solo.specs.OneRuntime.{Runtime, fire, opening, solo, solo_from}
 use Rattle.cv_solo.specs.PlainNetwork.{plain, round, rounds, turn, turns}
 use Rattle.cv_kahn.proofs.Alone.{Local, can}
 use Rattle.cv_kahn.proofs.Family.{Ahead, Region, after, catch_fire, catch_stay, fed, keep_up}
-use Rattle.cv_kahn.proofs.Fits.{Fits, and_then_some, fires, first, opens, same_ready}
+use Rattle.cv_kahn.proofs.Mirrors.{Mirrors, and_then_some, fires, first, opens, same_ready}
 use Rattle.cv_kahn.proofs.Turned.{Still, turned}
 
 pub record Follows (net : Net) (D : ℕ → Type 0) (r s : Runtime) : Type 0 where
   pub low : ℕ → Local
   pub high : ℕ → Local
-  pub low_fits : Fits net r low
-  pub high_fits : Fits net s high
+  pub low_fits : Mirrors net r low
+  pub high_fits : Mirrors net s high
   pub ahead : Ahead net D low high
 
 pub start : (net : Net) (D : ℕ → Type 0) → Follows net D (opening net) (opening net)
@@ -65,7 +65,7 @@ both_fire net D r s next later b k i wired region f e g =
       low = after net h.spec f.low b k;
       high = after net h.spec f.high b i;
       low_fits = h.fits;
-      high_fits = subst (λ (spec : ActorSpec). Fits net later (after net spec f.high b i)) same o.fits;
+      high_fits = subst (λ (spec : ActorSpec). Mirrors net later (after net spec f.high b i)) same o.fits;
       ahead = catch_fire net D f.low f.high b k i h.spec region f.ahead h.is h.ready (subst (λ (spec : ActorSpec). can spec (fed net f.high b) (f.high b) i ≡ true) same o.ready);
     }
 

@@ -1,7 +1,7 @@
 -- The law: a run follows the rounds, and the rounds follow a run that rests.
 use Rattle.std.proofs.Common.{◌≡◌, ◌⊎◌, ℕ, ◌+◌, ◌≤◌, List, length, slice_get, Option, Some, None, refl, ap, sym, ◌∙◌, subst, arith}
 use Rattle.cv_kinds.specs.declared.network.ActorSpec.{ActorSpec}
-use Rattle.cv_kinds.specs.declared.network.Join.{Join}
+use Rattle.cv_kinds.specs.declared.network.Connection.{Connection}
 use Rattle.cv_kinds.specs.Net.{Net}
 use Rattle.cv_kinds.specs.Wired.{HasInport, HasOutport, IsWired}
 use Rattle.cv_solo.specs.OneRuntime.{Runtime, slots_of, solo}
@@ -12,7 +12,7 @@ use Rattle.cv_kahn.specs.Streams.{Prefix, took_at, wrote_at}
 use Rattle.cv_kahn.proofs.Rows.{Longer, prefix_either, prefix_same}
 use Rattle.cv_kahn.proofs.Alone.{Local, behind_still, can}
 use Rattle.cv_kahn.proofs.Family.{Region, ahead_fed, ahead_sent, fed, fed_less, sent}
-use Rattle.cv_kahn.proofs.Fits.{same_ready, took_is, wrote_is}
+use Rattle.cv_kahn.proofs.Mirrors.{same_ready, took_is, wrote_is}
 use Rattle.cv_kahn.proofs.Turned.{Still}
 use Rattle.cv_kahn.proofs.Follows.{Follows, rounds_follow, run_follows}
 
@@ -36,7 +36,7 @@ still : (net : Net) (r : Runtime) (actor : ℕ) → Rests net r actor → (b : �
 still net r actor rests b leads k spec is = rests b k spec leads is
 
 -- of two states, one of which follows the other
-prefix_of : (net : Net) (D : ℕ → Type 0) (r s : Runtime) (c : ℕ) (j : Join) → Region net D → Follows net D r s → slice_get net.connections c ≡ Some j → D j.from → Prefix (wrote_at r c) (wrote_at s c)
+prefix_of : (net : Net) (D : ℕ → Type 0) (r s : Runtime) (c : ℕ) (j : Connection) → Region net D → Follows net D r s → slice_get net.connections c ≡ Some j → D j.from → Prefix (wrote_at r c) (wrote_at s c)
 prefix_of net D r s c j within f at leads =
     subst (λ xs. Prefix xs (wrote_at s c)) (sym (wrote_is net r f.low c j f.low_fits at))
     (subst (Prefix (sent net c j f.low)) (sym (wrote_is net s f.high c j f.high_fits at))
@@ -57,12 +57,12 @@ level net D r s a spec within f g leads is still =
     (λ k. ap (λ (written : ℕ → _). can spec written (f.low a) k) (sym same) ∙ sym (same_ready net r f.low a k spec f.low_fits) ∙ still k spec is)
     (f.ahead a spec leads is)
 
-pub prefix : (net : Net) (firings : List (ℕ × ℕ)) (r : Runtime) (n c : ℕ) (j : Join) → IsWired net → solo net firings ≡ Some r → length firings ≤ n → slice_get net.connections c ≡ Some j → Determined net j.from → Prefix (wrote_at r c) (wrote_at (plain net n) c)
+pub prefix : (net : Net) (firings : List (ℕ × ℕ)) (r : Runtime) (n c : ℕ) (j : Connection) → IsWired net → solo net firings ≡ Some r → length firings ≤ n → slice_get net.connections c ≡ Some j → Determined net j.from → Prefix (wrote_at r c) (wrote_at (plain net n) c)
 prefix net firings r n c j wired runs few at determined =
     let within = region net j.from wired determined in
     prefix_of net (Reaches net.connections j.from) r (plain net n) c j within (run_follows net (Reaches net.connections j.from) firings r n wired within runs few) at itself
 
-pub whole : (net : Net) (firings : List (ℕ × ℕ)) (r : Runtime) (n c : ℕ) (j : Join) → IsWired net → solo net firings ≡ Some r → length firings ≤ n → slice_get net.connections c ≡ Some j → Determined net j.from → Rests net r j.from → wrote_at r c ≡ wrote_at (plain net n) c
+pub whole : (net : Net) (firings : List (ℕ × ℕ)) (r : Runtime) (n c : ℕ) (j : Connection) → IsWired net → solo net firings ≡ Some r → length firings ≤ n → slice_get net.connections c ≡ Some j → Determined net j.from → Rests net r j.from → wrote_at r c ≡ wrote_at (plain net n) c
 whole net firings r n c j wired runs few at determined rests =
     let within = region net j.from wired determined in
     let back = rounds_follow net (Reaches net.connections j.from) firings r n wired within runs (still net r j.from rests) in
@@ -85,21 +85,21 @@ slots net firings r n actor spec wired runs few is determined rests =
     let h = at_rest net firings r n actor spec wired runs few is determined rests in
     h.follows.low_fits.slots actor ∙ ap (λ (x : Local). x.slots) h.same ∙ sym (h.follows.high_fits.slots actor)
 
-pub taken : (net : Net) (firings : List (ℕ × ℕ)) (r : Runtime) (n c : ℕ) (j : Join) → IsWired net → solo net firings ≡ Some r → length firings ≤ n → slice_get net.connections c ≡ Some j → Determined net j.to → Rests net r j.to → took_at r c ≡ took_at (plain net n) c
+pub taken : (net : Net) (firings : List (ℕ × ℕ)) (r : Runtime) (n c : ℕ) (j : Connection) → IsWired net → solo net firings ≡ Some r → length firings ≤ n → slice_get net.connections c ≡ Some j → Determined net j.to → Rests net r j.to → took_at r c ≡ took_at (plain net n) c
 taken net firings r n c j wired runs few at determined rests =
     let consumer = consumer_there (slice_get net.actors j.to) j.inp (wired.consumers c j at) in
     let h = at_rest net firings r n j.to consumer.0 wired runs few consumer.1 determined rests in
     took_is net r h.follows.low c j h.follows.low_fits at ∙ ap (λ (x : Local). x.took j.inp) h.same ∙ sym (took_is net (plain net n) h.follows.high c j h.follows.high_fits at)
 
 -- two runs, by the rounds that are ahead of both
-pub one_begins : (net : Net) (firings others : List (ℕ × ℕ)) (r s : Runtime) (c : ℕ) (j : Join) → IsWired net → solo net firings ≡ Some r → solo net others ≡ Some s → slice_get net.connections c ≡ Some j → Determined net j.from → Prefix (wrote_at r c) (wrote_at s c) ⊎ Prefix (wrote_at s c) (wrote_at r c)
+pub one_begins : (net : Net) (firings others : List (ℕ × ℕ)) (r s : Runtime) (c : ℕ) (j : Connection) → IsWired net → solo net firings ≡ Some r → solo net others ≡ Some s → slice_get net.connections c ≡ Some j → Determined net j.from → Prefix (wrote_at r c) (wrote_at s c) ⊎ Prefix (wrote_at s c) (wrote_at r c)
 one_begins net firings others r s c j wired runs other_runs at determined =
     let n = length firings + length others in
     let few : length firings ≤ n = omega arith in
     let other_few : length others ≤ n = omega arith in
     prefix_either (wrote_at r c) (wrote_at s c) (wrote_at (plain net n) c) (prefix net firings r n c j wired runs few at determined) (prefix net others s n c j wired other_runs other_few at determined)
 
-pub same : (net : Net) (firings others : List (ℕ × ℕ)) (r s : Runtime) (c : ℕ) (j : Join) → IsWired net → solo net firings ≡ Some r → solo net others ≡ Some s → slice_get net.connections c ≡ Some j → Determined net j.from → Rests net r j.from → Rests net s j.from → wrote_at r c ≡ wrote_at s c
+pub same : (net : Net) (firings others : List (ℕ × ℕ)) (r s : Runtime) (c : ℕ) (j : Connection) → IsWired net → solo net firings ≡ Some r → solo net others ≡ Some s → slice_get net.connections c ≡ Some j → Determined net j.from → Rests net r j.from → Rests net s j.from → wrote_at r c ≡ wrote_at s c
 same net firings others r s c j wired runs other_runs at determined rests other_rests =
     let n = length firings + length others in
     let few : length firings ≤ n = omega arith in

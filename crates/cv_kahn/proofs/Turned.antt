@@ -7,7 +7,7 @@ use Rattle.cv_kinds.specs.Net.{Net}
 use Rattle.cv_solo.specs.OneRuntime.{Runtime, effect_at, fire, fired_if, inputs_of, ready_of, slots_of}
 use Rattle.cv_solo.specs.PlainNetwork.{first_from, first_ready, turn}
 use Rattle.cv_kahn.proofs.Rows.{ready_within}
-use Rattle.cv_kahn.proofs.Fits.{after_effect, and_then_some}
+use Rattle.cv_kahn.proofs.Mirrors.{after_effect, and_then_some}
 
 -- no action of the actor is ready
 abbrev pub Still : Net → Runtime → ℕ → Type 0

@@ -2,15 +2,15 @@
 use Rattle.std.specs.Prelude.{◌≡◌, ℕ, false, List, slice_get, Option, Some, None}
 use Rattle.cv_behave.specs.KindRow.{Deterministic}
 use Rattle.cv_kinds.specs.declared.network.ActorSpec.{ActorSpec}
-use Rattle.cv_kinds.specs.declared.network.Join.{Join}
+use Rattle.cv_kinds.specs.declared.network.Connection.{Connection}
 use Rattle.cv_kinds.specs.KindRow.{row_of}
 use Rattle.cv_kinds.specs.Net.{Net}
 use Rattle.cv_solo.specs.OneRuntime.{Runtime, ready_of, slots_of}
 
 -- the actors from which an actor is reached: itself, and the producers of what such an actor consumes
-pub data Reaches (joins : List Join) (actor : ℕ) : ℕ → Type 0 where
+pub data Reaches (joins : List Connection) (actor : ℕ) : ℕ → Type 0 where
   itself : Reaches joins actor actor
-  through : (c : ℕ) (j : Join) → slice_get joins c ≡ Some j → Reaches joins actor j.to → Reaches joins actor j.from
+  through : (c : ℕ) (j : Connection) → slice_get joins c ≡ Some j → Reaches joins actor j.to → Reaches joins actor j.from
 
 -- for no arguments, state and inputs two actions of the actor are ready
 abbrev pub IsDeterministic : Option ActorSpec → Type 0

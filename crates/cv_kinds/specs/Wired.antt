@@ -1,7 +1,7 @@
 -- A well-formed network: its connections join ports that are there, and no two share an inport.
 use Rattle.std.specs.Prelude.{◌≡◌, ℕ, ◌<◌, ◌≤◌, List, [], ◌∷◌, slice_get, Option, Some, None}
 use Rattle.cv_kinds.specs.declared.network.ActorSpec.{ActorSpec}
-use Rattle.cv_kinds.specs.declared.network.Join.{Join}
+use Rattle.cv_kinds.specs.declared.network.Connection.{Connection}
 use Rattle.cv_kinds.specs.Net.{Net}
 use Rattle.cv_kinds.specs.KindRow.{row_of}
 
@@ -16,24 +16,24 @@ HasInport (Some a) port = port < (row_of a.kind).inports
 
 -- an outport may feed several connections
 pub record IsWired (net : Net) : Type 0 where
-  pub producers : (c : ℕ) (j : Join) → slice_get net.connections c ≡ Some j → HasOutport (slice_get net.actors j.from) j.out
-  pub consumers : (c : ℕ) (j : Join) → slice_get net.connections c ≡ Some j → HasInport (slice_get net.actors j.to) j.inp
-  pub one_writer : (c d : ℕ) (j k : Join) → slice_get net.connections c ≡ Some j → slice_get net.connections d ≡ Some k → j.to ≡ k.to → j.inp ≡ k.inp → c ≡ d
+  pub producers : (c : ℕ) (j : Connection) → slice_get net.connections c ≡ Some j → HasOutport (slice_get net.actors j.from) j.out
+  pub consumers : (c : ℕ) (j : Connection) → slice_get net.connections c ≡ Some j → HasInport (slice_get net.actors j.to) j.inp
+  pub one_writer : (c d : ℕ) (j k : Connection) → slice_get net.connections c ≡ Some j → slice_get net.connections d ≡ Some k → j.to ≡ k.to → j.inp ≡ k.inp → c ≡ d
 
 -- both ends of a connection are there
-pub record Joins (actors : List ActorSpec) (j : Join) : Type 0 where
+pub record Joins (actors : List ActorSpec) (j : Connection) : Type 0 where
   pub producer : HasOutport (slice_get actors j.from) j.out
   pub consumer : HasInport (slice_get actors j.to) j.inp
 
 -- j stands at an inport before that of k: by consumer, then inport
-abbrev pub IsBelow : Join → Join → Type 0
+abbrev pub IsBelow : Connection → Connection → Type 0
 IsBelow j k = (j.to ≤ k.to) × (j.to ≡ k.to → j.inp < k.inp)
 
-abbrev pub AllAbove : Join → List Join → Type 0
+abbrev pub AllAbove : Connection → List Connection → Type 0
 AllAbove j [] = Unit {0}
 AllAbove j (k ∷ js) = IsBelow j k × AllAbove j js
 
 -- connections stand by consumer, then inport; so each inport has at most one
-abbrev pub Rising : List Join → Type 0
+abbrev pub Rising : List Connection → Type 0
 Rising [] = Unit {0}
 Rising (j ∷ js) = AllAbove j js × Rising js

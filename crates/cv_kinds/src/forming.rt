@@ -6,7 +6,7 @@ ghost use Rattle.std.specs.Str.{bytes_eq};
 ghost use Rattle.cv_kinds.specs.WellFormed.{IsSpec, IsWellFormed, path_list};
 ghost use Rattle.cv_kinds.specs.Wired.{HasInport, HasOutport, IsBelow, Joins, Rising};
 
-use crate::network::{ActorSpec, Join, Network};
+use crate::network::{ActorSpec, Connection, Network};
 use crate::sorts::args_ok;
 use cv_behave::Behave;
 use cv_token::OutOfMemory;
@@ -24,7 +24,7 @@ impl Network {
     pub fn of(
         alloc: Global,
         actors: Vec<ActorSpec>,
-        connections: Vec<Join>,
+        connections: Vec<Connection>,
     ) -> Result<Option<Network>, OutOfMemory>
         ensures made { IfOk result (λ found. IfSome found (λ net. net ≡ record { actors = actors.items; connections = connections.items })) }
         ensures exact { IfOk result (λ found. IsSome found ↔ IsWellFormed (record { actors = actors.items; connections = connections.items })) }
@@ -40,7 +40,7 @@ impl Network {
 fn is_well_formed(
     alloc: Global,
     actors: &[ActorSpec],
-    connections: &[Join],
+    connections: &[Connection],
 ) -> Result<bool, OutOfMemory>
     ensures { IfOk result (λ whole. IsTrue whole ↔ IsWellFormed (record { actors = actors.now; connections = connections.now })) }
 {
@@ -83,13 +83,13 @@ fn are_distinct(alloc: Global, actors: &[ActorSpec]) -> Result<bool, OutOfMemory
 }
 
 /// Whether each connection joins ports that are there.
-fn are_joined(actors: &[ActorSpec], connections: &[Join]) -> bool
+fn are_joined(actors: &[ActorSpec], connections: &[Connection]) -> bool
     ensures { IsTrue result ↔ All (Joins actors.now) connections.now }
 {
     connections.iter().all(|join| is_joined(actors, *join))
 }
 
-fn is_joined(actors: &[ActorSpec], join: Join) -> bool
+fn is_joined(actors: &[ActorSpec], join: Connection) -> bool
     ensures { IsTrue result ↔ Joins actors.now join }
 {
     has_outport(actors, join.from, join.out) && has_inport(actors, join.to, join.inp)
@@ -114,7 +114,7 @@ fn has_inport(actors: &[ActorSpec], actor: u16, port: u8) -> bool
 }
 
 /// Whether connections stand by consumer, then inport, no two at one inport.
-fn rise(connections: &[Join]) -> bool
+fn rise(connections: &[Connection]) -> bool
     ensures { IsTrue result ↔ Rising connections.now }
 {
     for i in 1..connections.len() {
@@ -125,7 +125,7 @@ fn rise(connections: &[Join]) -> bool
     true
 }
 
-fn is_below(join: Join, other: Join) -> bool
+fn is_below(join: Connection, other: Connection) -> bool
     ensures { IsTrue result ↔ IsBelow join other }
 {
     join.to < other.to || join.to == other.to && join.inp < other.inp

@@ -14,6 +14,6 @@ pub mod table;
 pub use arguments::{ArgFault, ArgList, Argument, Given, check_args};
 pub use kind::{Kind, actions, deterministic};
 pub use names::{KINDS, find, inport, name, outport};
-pub use network::{ActorSpec, Join, Network};
+pub use network::{ActorSpec, Connection, Network};
 pub use sorts::{args_ok, state_ok};
 pub use table::{Line, Param, Preset, Slot, Sort};

@@ -18,7 +18,7 @@ pub struct ActorSpec {
 
 /// A connection from outport `out` of actor `from` to inport `inp` of actor `to`; actors by their places.
 #[derive(Debug, Clone, Copy, PartialEq, Eq)]
-pub struct Join {
+pub struct Connection {
     pub from: u16,
     pub out: u8,
     pub to: u16,
@@ -30,7 +30,7 @@ pub struct Join {
 #[derive(Drop)]
 pub struct Network {
     actors: Vec<ActorSpec>,
-    connections: Vec<Join>,
+    connections: Vec<Connection>,
 }
 
 impl Model for Network {
@@ -66,7 +66,7 @@ impl ActorSpec {
 impl Network {
     /// The network of these actors, in the order of their declarations, and of these connections, by consumer and
     /// then inport; it takes no memory.
-    pub fn new(actors: Vec<ActorSpec>, connections: Vec<Join>) -> Network
+    pub fn new(actors: Vec<ActorSpec>, connections: Vec<Connection>) -> Network
         requires { IsWellFormed (record { actors = actors.items; connections = connections.items }) }
         ensures actors { result.actors ≡ actors.items }
         ensures connections { result.connections ≡ connections.items }
@@ -93,7 +93,7 @@ impl Network {
     }
 
     /// The connections, by consumer and then inport. A connection's place is its position here.
-    pub fn connections(&self) -> &[Join]
+    pub fn connections(&self) -> &[Connection]
         ensures value { result.now ≡ self.now.connections }
         ensures few { length result.now ≤ 4096 }
     {

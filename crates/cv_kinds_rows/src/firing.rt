@@ -1,7 +1,7 @@
 //! A firing that is not allowed, then one that is.
 
 use cv_flow::FlowKind;
-use cv_kinds::{ActorSpec, Join, Kind, Network};
+use cv_kinds::{ActorSpec, Connection, Kind, Network};
 use cv_solo::{Solo, SoloFault};
 use cv_token::{Items, Text, Token};
 use std::alloc::Global;
@@ -24,7 +24,7 @@ fn constant_to_print(alloc: Global) -> Result<Network, Fail> {
         args: Items::new(alloc),
     })?;
     let mut connections = Vec::new(alloc);
-    connections.push(Join {
+    connections.push(Connection {
         from: 0,
         out: 0,
         to: 1,

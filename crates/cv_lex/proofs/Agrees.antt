@@ -13,7 +13,7 @@ use Rattle.cv_lex.specs.declared.lexeme.LexFault.TheVariants as faults
 use Rattle.cv_lex.specs.Bytes.{is_blank_byte, is_name_start, is_name_byte, is_digit, is_mark_byte}
 use Rattle.cv_lex.specs.Fronts.{front_of, name_front, fraction_len, int_front, number_front, minus_front, comment_front, slash_front, inside_front, text_front, quote_front}
 use Rattle.cv_lex.specs.Numbers.{int_of}
-use Rattle.cv_lex.specs.Shapes.{Fits}
+use Rattle.cv_lex.specs.Shapes.{IsInLimits}
 use Rattle.cv_lex.specs.Spans.{closing}
 use Rattle.cv_lex.specs.Texts.{said_from, bad_of}
 use Rattle.cv_lex.proofs.Insides.{closing_inside}
@@ -22,12 +22,12 @@ use Rattle.cv_lex.proofs.Sizes.{Size, number_size, minus_size, closed_size, slas
 -- what is found does not fit
 abbrev pub IsUnfit : List ℕ → Option Sort → ℕ → Type 0
 IsUnfit bytes None n = ⊥
-IsUnfit bytes (Some sort) n = Fits sort (take n bytes) → ⊥
+IsUnfit bytes (Some sort) n = IsInLimits sort (take n bytes) → ⊥
 
 -- the front is what was found, if that fits; else it is a flaw
 abbrev pub Agrees : List ℕ → Front → Size → Type 0
 Agrees bytes (fronts.Blank more) size = size ≡ Some (None, suc more)
-Agrees bytes (fronts.Lexeme sort more) size = (size ≡ Some (Some sort, suc more)) × Fits sort (take (suc more) bytes)
+Agrees bytes (fronts.Lexeme sort more) size = (size ≡ Some (Some sort, suc more)) × IsInLimits sort (take (suc more) bytes)
 Agrees bytes (fronts.Flaw fault) None = Unit {0}
 Agrees bytes (fronts.Flaw fault) (Some found) = IsUnfit bytes found.0 found.1
 
@@ -110,7 +110,7 @@ front_agrees at b rest =
 -- a lexeme at the front keeps the limits of its sort
 abbrev pub KeepsLimits : List ℕ → Front → Type 0
 KeepsLimits bytes (fronts.Blank more) = Unit {0}
-KeepsLimits bytes (fronts.Lexeme sort more) = Fits sort (take (suc more) bytes)
+KeepsLimits bytes (fronts.Lexeme sort more) = IsInLimits sort (take (suc more) bytes)
 KeepsLimits bytes (fronts.Flaw fault) = Unit {0}
 
 limits : (bytes : List ℕ) (front : Front) (size : Size) → Agrees bytes front size → KeepsLimits bytes front

@@ -15,7 +15,7 @@ use Rattle.cv_lex.specs.Bytes.{is_blank_byte, is_name_start, is_name_byte, is_di
 use Rattle.cv_lex.specs.Faults.{NothingStands, OpensComment, OpensText, Exceeds, IsFaultAt}
 use Rattle.cv_lex.specs.Fronts.{front_of, name_front, fraction_len, int_front, number_front, minus_front, comment_front, slash_front, inside_front, text_front, quote_front}
 use Rattle.cv_lex.specs.Numbers.{int_of}
-use Rattle.cv_lex.specs.Shapes.{Fits}
+use Rattle.cv_lex.specs.Shapes.{IsInLimits}
 use Rattle.cv_lex.specs.Spans.{closing}
 use Rattle.cv_lex.specs.Texts.{said_from, bad_of}
 use Rattle.cv_lex.proofs.Agrees.{both_if, between}
@@ -38,10 +38,10 @@ Causes at bytes (fronts.Lexeme sort more) size = Unit {0}
 Causes at bytes (fronts.Flaw (faults.BadChar p)) size = (p ≡ at) × (size ≡ None) × (OpensText bytes → ⊥) × (OpensComment bytes → ⊥)
 Causes at bytes (fronts.Flaw (faults.OpenText p)) size = (p ≡ at) × (size ≡ None) × OpensText bytes × (OpensComment bytes → ⊥)
 Causes at bytes (fronts.Flaw (faults.OpenComment p)) size = (p ≡ at) × (size ≡ None) × OpensComment bytes
-Causes at bytes (fronts.Flaw (faults.WideNumber p)) size = (p ≡ at) × (n : ℕ) × (size ≡ Some (Some sorts.Int, n)) × (Fits sorts.Int (take n bytes) → ⊥)
+Causes at bytes (fronts.Flaw (faults.WideNumber p)) size = (p ≡ at) × (n : ℕ) × (size ≡ Some (Some sorts.Int, n)) × (IsInLimits sorts.Int (take n bytes) → ⊥)
 Causes at bytes (fronts.Flaw (faults.BadEscape p)) size =
     (bad : ℕ) × (n : ℕ) × (p ≡ at + (bad + 1)) × (size ≡ Some (Some sorts.Text, n)) × (bad_of (said_from 0 0 (take (length (take n bytes) - 2) (drop 1 (take n bytes)))) ≡ Some bad)
-Causes at bytes (fronts.Flaw (faults.LongName p)) size = (p ≡ at) × (n : ℕ) × (size ≡ Some (Some sorts.Name, n)) × (Fits sorts.Name (take n bytes) → ⊥)
+Causes at bytes (fronts.Flaw (faults.LongName p)) size = (p ≡ at) × (n : ℕ) × (size ≡ Some (Some sorts.Name, n)) × (IsInLimits sorts.Name (take n bytes) → ⊥)
 Causes at bytes (fronts.Flaw faults.OutOfMemory) size = ⊥
 
 -- other first bytes open nothing
@@ -132,7 +132,7 @@ front_causes at b rest =
     (λ _. (refl, refl, no_text b rest (eqb-false b 34 quote), no_comment b rest (eqb-false b 34 quote) (λ s _. eqb-false b 47 slash s)))))))))
 
 -- what is found stands there, beyond a limit
-exceeds : (sort : Sort) (b : ℕ) (rest : List ℕ) (n : ℕ) → size_of b rest ≡ Some (Some sort, n) → (Fits sort (take n (b ∷ rest)) → ⊥) → Exceeds sort (b ∷ rest)
+exceeds : (sort : Sort) (b : ℕ) (rest : List ℕ) (n : ℕ) → size_of b rest ≡ Some (Some sort, n) → (IsInLimits sort (take n (b ∷ rest)) → ⊥) → Exceeds sort (b ∷ rest)
 exceeds sort b rest n e unfit = (take n (b ∷ rest), drop n (b ∷ rest), sym (take-append-drop n (b ∷ rest)), (stands b rest (Some sort) n e).0, unfit)
 
 caused : (at b : ℕ) (rest : List ℕ) (fault : LexFault) → Causes at (b ∷ rest) (fronts.Flaw fault) (size_of b rest) → IsFaultAt fault at (b ∷ rest)

@@ -6,10 +6,10 @@ use Rattle.cv_lex.specs.declared.lexeme.LexFault.{LexFault}
 use Rattle.cv_lex.specs.declared.lexeme.LexFault.TheVariants as faults
 use Rattle.cv_lex.specs.declared.fronts.Front.{Front}
 use Rattle.cv_lex.specs.declared.fronts.Front.TheVariants as fronts
-use Rattle.cv_lex.specs.Faults.{Leads, here, blank, lexeme, NothingStands, OpensComment, Exceeds, IsFaultAt, HasFault}
+use Rattle.cv_lex.specs.Faults.{ReadsOn, here, blank, lexeme, NothingStands, OpensComment, Exceeds, IsFaultAt, HasFault}
 use Rattle.cv_lex.specs.Fronts.{front_of}
 use Rattle.cv_lex.specs.Lexemes.{lexemes, by_front}
-use Rattle.cv_lex.specs.Shapes.{Stands, Fits}
+use Rattle.cv_lex.specs.Shapes.{Stands, IsInLimits}
 use Rattle.cv_lex.specs.Texts.{said_from, bad_of}
 use Rattle.cv_lex.proofs.Agrees.{Agrees, front_agrees}
 use Rattle.cv_lex.proofs.Causes.{Causes, front_causes}
@@ -36,10 +36,10 @@ none_found b rest (Some found) e n =
 first_of : (left front tail : List ℕ) → left ≡ front ++ tail → front ≡ take (length front) left
 first_of left front tail e = sym (ap (take (length front)) e ∙ take-front front tail)
 
-exceeding : (sort : Sort) (b : ℕ) (rest : List ℕ) → Exceeds sort (b ∷ rest) → (n : ℕ) × (size_of b rest ≡ Some (Some sort, n)) × (Fits sort (take n (b ∷ rest)) → ⊥)
+exceeding : (sort : Sort) (b : ℕ) (rest : List ℕ) → Exceeds sort (b ∷ rest) → (n : ℕ) × (size_of b rest ≡ Some (Some sort, n)) × (IsInLimits sort (take n (b ∷ rest)) → ⊥)
 exceeding sort b rest x =
     let front = x.0 in
-    (length front, met (b ∷ rest) front x.1 (Some sort) x.2 x.3, λ fit. x.4 (subst (Fits sort) (sym (first_of (b ∷ rest) front x.1 x.2)) fit))
+    (length front, met (b ∷ rest) front x.1 (Some sort) x.2 x.3, λ fit. x.4 (subst (IsInLimits sort) (sym (first_of (b ∷ rest) front x.1 x.2)) fit))
 
 -- the cause by what is found
 cause_of : (at b : ℕ) (rest : List ℕ) (fault : LexFault) → IsFaultAt fault at (b ∷ rest) → Causes at (b ∷ rest) (fronts.Flaw fault) (size_of b rest)
@@ -96,14 +96,14 @@ never_blank (faults.LongName p) e = omega (arith, e)
 never_blank faults.OutOfMemory e = omega (arith, e)
 
 -- a lexeme that fits is no fault
-over : (sort other : Sort) (bytes : List ℕ) (m n : ℕ) (size : Size) → size ≡ Some (Some sort, m) → size ≡ Some (Some other, n) → Fits other (take n bytes) → Fits sort (take m bytes)
+over : (sort other : Sort) (bytes : List ℕ) (m n : ℕ) (size : Size) → size ≡ Some (Some sort, m) → size ≡ Some (Some other, n) → IsInLimits other (take n bytes) → IsInLimits sort (take m bytes)
 over sort other bytes m n size e f fit =
     let thing : Some other ≡ Some sort = thing_same (Some other) (Some sort) n m (sym f ∙ e) in
     let kind : other ≡ sort = cc in
-    let P : Sort → Type 0 = λ s. Fits s (take m bytes) in
-    subst P kind (subst (λ (k : ℕ). Fits other (take k bytes)) (size_same (Some other) (Some sort) n m (sym f ∙ e)) fit)
+    let P : Sort → Type 0 = λ s. IsInLimits s (take m bytes) in
+    subst P kind (subst (λ (k : ℕ). IsInLimits other (take k bytes)) (size_same (Some other) (Some sort) n m (sym f ∙ e)) fit)
 
-no_lexeme : (at : ℕ) (bytes : List ℕ) (size : Size) (sort : Sort) (n : ℕ) (fault : LexFault) → size ≡ Some (Some sort, n) → Fits sort (take n bytes) → Causes at bytes (fronts.Flaw fault) size → ⊥
+no_lexeme : (at : ℕ) (bytes : List ℕ) (size : Size) (sort : Sort) (n : ℕ) (fault : LexFault) → size ≡ Some (Some sort, n) → IsInLimits sort (take n bytes) → Causes at bytes (fronts.Flaw fault) size → ⊥
 no_lexeme at bytes size sort n (faults.BadChar p) e fit c = let same : ◌≡◌ {A = Size} None (Some (Some sort, n)) = sym c.1 ∙ e in cc
 no_lexeme at bytes size sort n (faults.OpenText p) e fit c = let same : ◌≡◌ {A = Size} None (Some (Some sort, n)) = sym c.1 ∙ e in cc
 no_lexeme at bytes size sort n (faults.OpenComment p) e fit c = let same : ◌≡◌ {A = Size} None (Some (Some sort, n)) = sym c.1 ∙ e in cc
@@ -168,7 +168,7 @@ fault_here at (b ∷ rest) fault h =
     (front_is at (b ∷ rest) (size_of b rest) (front_of at (b ∷ rest)) fault (front_agrees at b rest) (front_causes at b rest) (cause_of at b rest fault h))
 
 -- a fault to which the text leads is the answer
-fault_there : (at place : ℕ) (bytes left : List ℕ) (fault : LexFault) → Leads at bytes place left → IsFaultAt fault place left → lexemes at 0 bytes ≡ Err fault
+fault_there : (at place : ℕ) (bytes left : List ℕ) (fault : LexFault) → ReadsOn at bytes place left → IsFaultAt fault place left → lexemes at 0 bytes ≡ Err fault
 fault_there at place bytes left fault here h = fault_here at bytes fault h
 fault_there at place bytes left fault (blank {rest = rest} front s l) h =
     complete_blank at front rest (front ++ rest) (Err fault) refl (met (front ++ rest) front rest None refl s) (fault_there (at + length front) place rest left fault l h)

@@ -6,7 +6,7 @@ use Rattle.cv_lex.specs.declared.lexeme.LexFault.{LexFault}
 use Rattle.cv_lex.specs.declared.lexeme.LexFault.TheVariants as faults
 use Rattle.cv_lex.specs.declared.fronts.Front.{Front}
 use Rattle.cv_lex.specs.declared.fronts.Front.TheVariants as fronts
-use Rattle.cv_lex.specs.Faults.{Leads, here, blank, lexeme, IsFaultAt, HasFault, IsCaused}
+use Rattle.cv_lex.specs.Faults.{ReadsOn, here, blank, lexeme, IsFaultAt, HasFault, IsCaused}
 use Rattle.cv_lex.specs.Fronts.{front_of}
 use Rattle.cv_lex.specs.Lexemes.{lexemes, by_front, with_front, Fails}
 use Rattle.cv_lex.proofs.Agrees.{Agrees, front_agrees}
@@ -16,7 +16,7 @@ use Rattle.cv_lex.proofs.Stood.{stands}
 
 -- from a place on the text leads to the fault
 abbrev LeadsTo : ℕ → List ℕ → LexFault → Type 0
-LeadsTo at bytes fault = (place : ℕ) × (left : List ℕ) × Leads at bytes place left × IsFaultAt fault place left
+LeadsTo at bytes fault = (place : ℕ) × (left : List ℕ) × ReadsOn at bytes place left × IsFaultAt fault place left
 
 -- lexemes in front leave the fault
 with_front-err : (ls : List Lexeme) (r : Result (List Lexeme) LexFault) (fault : LexFault) → with_front ls r ≡ Err fault → r ≡ Err fault
@@ -30,8 +30,8 @@ leads_front at b rest (fronts.Blank more) next fault f a behind e =
     let count : length front ≡ suc more = length-take-le (suc more) (b ∷ rest) s.1 in
     let place : at + 1 + more ≡ at + length front = omega (arith, count) in
     let g = behind more (omega (arith, s.1)) e in
-    let P : ℕ → Type 0 = λ k. Leads k (drop more rest) g.0 g.1 in
-    let Q : List ℕ → Type 0 = λ bytes. Leads at bytes g.0 g.1 in
+    let P : ℕ → Type 0 = λ k. ReadsOn k (drop more rest) g.0 g.1 in
+    let Q : List ℕ → Type 0 = λ bytes. ReadsOn at bytes g.0 g.1 in
     (g.0, g.1, subst Q (take-append-drop (suc more) (b ∷ rest)) (blank front s.0 (subst P place g.2)), g.3)
 leads_front at b rest (fronts.Lexeme sort more) next fault f a behind e =
     let s = stands b rest (Some sort) (suc more) a.0 in
@@ -39,8 +39,8 @@ leads_front at b rest (fronts.Lexeme sort more) next fault f a behind e =
     let count : length front ≡ suc more = length-take-le (suc more) (b ∷ rest) s.1 in
     let place : at + 1 + more ≡ at + length front = omega (arith, count) in
     let g = behind more (omega (arith, s.1)) (with_front-err (record { sort = sort; at = at; len = more + 1 } ∷ []) (next more) fault e) in
-    let P : ℕ → Type 0 = λ k. Leads k (drop more rest) g.0 g.1 in
-    let Q : List ℕ → Type 0 = λ bytes. Leads at bytes g.0 g.1 in
+    let P : ℕ → Type 0 = λ k. ReadsOn k (drop more rest) g.0 g.1 in
+    let Q : List ℕ → Type 0 = λ bytes. ReadsOn at bytes g.0 g.1 in
     (g.0, g.1, subst Q (take-append-drop (suc more) (b ∷ rest)) (lexeme sort front s.0 a.1 (subst P place g.2)), g.3)
 leads_front at b rest (fronts.Flaw other) next fault f a behind e =
     let same : other ≡ fault = cc in

@@ -12,7 +12,7 @@ use Rattle.cv_lex.specs.declared.fronts.Front.{Front}
 use Rattle.cv_lex.specs.declared.fronts.Front.TheVariants as fronts
 use Rattle.cv_lex.specs.Cuts.{IsCut}
 use Rattle.cv_lex.specs.Fronts.{front_of}
-use Rattle.cv_lex.specs.Shapes.{Fits}
+use Rattle.cv_lex.specs.Shapes.{IsInLimits}
 use Rattle.cv_lex.specs.Words.{bytes_of}
 use Rattle.cv_lex.proofs.Agrees.{KeepsLimits, front_limits}
 use Rattle.cv_lex.specs.Lexemes.{lexemes, by_front, with_front}
@@ -22,7 +22,7 @@ abbrev AllCut : List ℕ → List Lexeme → Type 0
 AllCut source = AllByRecursion (IsCut source)
 
 -- a piece at a place is a part of the source
-cut : (source : List ℕ) (at : ℕ) (sort : Sort) (more : ℕ) → IsUtf8 source → IsPiece (drop at source) (fronts.Lexeme sort more) → Fits sort (take (suc more) (drop at source)) → IsCut source (record { sort = sort; at = at; len = more + 1 })
+cut : (source : List ℕ) (at : ℕ) (sort : Sort) (more : ℕ) → IsUtf8 source → IsPiece (drop at source) (fronts.Lexeme sort more) → IsInLimits sort (take (suc more) (drop at source)) → IsCut source (record { sort = sort; at = at; len = more + 1 })
 cut source at sort more u p f =
     let first : get_or (drop at source) 0 0 ≡ get_or source at 0 = get_or-drop at source 0 0 ∙ ap (λ n. get_or source n 0) (omega arith) in
     let last = get_or-drop at source more 0 in
@@ -34,7 +34,7 @@ cut source at sort more u p f =
       some = omega arith;
       quotes = λ e. omega (arith, p.3 e);
       within = omega (arith, p.0);
-      fits = subst (λ (n : ℕ). Fits sort (take n (drop at source))) count f;
+      fits = subst (λ (n : ℕ). IsInLimits sort (take n (drop at source))) count f;
       start = IsCharBoundary-before_ascii source at (omega (arith, p.0)) (omega (arith, p.1));
       opened = IsCharBoundary-after_ascii source at u (omega (arith, p.0)) (omega (arith, p.1));
       closed = subst (IsCharBoundary source) lasts (IsCharBoundary-before_ascii source (at + more) (omega (arith, p.0)) (omega (arith, p.2)));
@@ -70,5 +70,5 @@ pub all_cut : (source : List ℕ) (ls : List Lexeme) → IsUtf8 source → lexem
 all_cut source ls u h = All-from_recursion (IsCut source) ls (cuts source u 0 0 source refl ls h)
 
 -- and keeps the limits of its sort
-pub all_fit : (source : List ℕ) (ls : List Lexeme) → IsUtf8 source → lexemes 0 0 source ≡ Ok ls → All (λ lexeme. Fits lexeme.sort (bytes_of source lexeme)) ls
+pub all_fit : (source : List ℕ) (ls : List Lexeme) → IsUtf8 source → lexemes 0 0 source ≡ Ok ls → All (λ lexeme. IsInLimits lexeme.sort (bytes_of source lexeme)) ls
 all_fit source ls u h = λ k d within. (all_cut source ls u h k d within).fits

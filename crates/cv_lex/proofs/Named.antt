@@ -9,7 +9,7 @@ use Rattle.cv_lex.specs.declared.lexeme.Lexeme.{Lexeme}
 use Rattle.cv_lex.specs.Cuts.{IsNamed}
 use Rattle.cv_lex.specs.Lexemes.{lexemes}
 use Rattle.cv_lex.specs.Shapes.{IsName, IsAt}
-use Rattle.cv_lex.specs.Spelling.{Spells, nothing, blank, lexeme}
+use Rattle.cv_lex.specs.Spelling.{SpellsLexemes, nothing, blank, lexeme}
 use Rattle.cv_lex.proofs.Right.{take-front}
 use Rattle.cv_lex.proofs.Spelled.{lexemes_spelled}
 
@@ -23,7 +23,7 @@ front_there source at front rest e =
     let count : length front ≡ at + length front - at = omega arith in
     sym (take-front front rest) ∙ ap (take (length front)) e ∙ ap (λ n. take n (drop at source)) count
 
-names : (source : List ℕ) (at : ℕ) (bytes : List ℕ) (ls : List Lexeme) → bytes ≡ drop at source → Spells at bytes ls → AllByRecursion (IsNamed source) ls
+names : (source : List ℕ) (at : ℕ) (bytes : List ℕ) (ls : List Lexeme) → bytes ≡ drop at source → SpellsLexemes at bytes ls → AllByRecursion (IsNamed source) ls
 names source at bytes ls e nothing = tt
 names source at bytes ls e (blank {rest = rest} front stands more) = names source (at + length front) rest ls (behind source at front rest e) more
 names source at bytes ls e (lexeme {rest = rest} {lexemes = others} sort front stands fits more) =

@@ -8,7 +8,7 @@ use Rattle.cv_lex.specs.declared.lexeme.Lexeme.{Lexeme}
 use Rattle.cv_lex.specs.declared.lexeme.LexFault.{LexFault}
 use Rattle.cv_lex.specs.Lexemes.{lexemes, Gives, Rise}
 use Rattle.cv_lex.specs.Shapes.{IsAt}
-use Rattle.cv_lex.specs.Spelling.{Spells, nothing, blank, lexeme}
+use Rattle.cv_lex.specs.Spelling.{SpellsLexemes, nothing, blank, lexeme}
 use Rattle.cv_lex.proofs.Spelled.{lexemes_spelled}
 
 -- a lexeme has bytes
@@ -31,7 +31,7 @@ rise-before from start end (l ∷ ls) h r = (omega (arith, r.0), r.1, r.2)
 rise-end : (from m n : ℕ) (ls : List Lexeme) → m ≡ n → Rise from ls m → Rise from ls n
 rise-end from m n ls e r = subst (λ (k : ℕ). Rise from ls k) e r
 
-rising : (at : ℕ) (bytes : List ℕ) (ls : List Lexeme) → Spells at bytes ls → Rise at ls (at + length bytes)
+rising : (at : ℕ) (bytes : List ℕ) (ls : List Lexeme) → SpellsLexemes at bytes ls → Rise at ls (at + length bytes)
 rising at bytes ls nothing = omega arith
 rising at bytes ls (blank {rest = rest} {lexemes = ms} front s h) =
     rise-before at (at + length front) (at + length (front ++ rest)) ms (omega arith)

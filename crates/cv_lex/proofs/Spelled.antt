@@ -11,8 +11,8 @@ use Rattle.cv_lex.specs.declared.fronts.Front.{Front}
 use Rattle.cv_lex.specs.declared.fronts.Front.TheVariants as fronts
 use Rattle.cv_lex.specs.Fronts.{front_of}
 use Rattle.cv_lex.specs.Lexemes.{lexemes, by_front, with_front, Gives}
-use Rattle.cv_lex.specs.Shapes.{IsAt, Stands, Fits}
-use Rattle.cv_lex.specs.Spelling.{Spells, nothing, blank, lexeme}
+use Rattle.cv_lex.specs.Shapes.{IsAt, Stands, IsInLimits}
+use Rattle.cv_lex.specs.Spelling.{SpellsLexemes, nothing, blank, lexeme}
 use Rattle.cv_lex.proofs.Agrees.{Agrees, front_agrees}
 use Rattle.cv_lex.proofs.Covers.{Covers, front_size, drop-front, size_covers}
 use Rattle.cv_lex.proofs.Right.{IsRight, take-front, size_right}
@@ -21,26 +21,26 @@ use Rattle.cv_lex.proofs.Stood.{stands}
 use Rattle.cv_lex.proofs.Skips.{lexemes-blank, lexemes-lexeme}
 
 -- a lexeme and those behind it
-spelled_lexeme : (at b : ℕ) (rest : List ℕ) (sort : Sort) (more : ℕ) (r : Result (List Lexeme) LexFault) (ls : List Lexeme) → Stands (Some sort) (take (suc more) (b ∷ rest)) (drop more rest) → Fits sort (take (suc more) (b ∷ rest)) → length (take (suc more) (b ∷ rest)) ≡ suc more → ((ms : List Lexeme) → r ≡ Ok ms → Spells (at + 1 + more) (drop more rest) ms) → with_front (record { sort = sort; at = at; len = more + 1 } ∷ []) r ≡ Ok ls → Spells at (b ∷ rest) ls
+spelled_lexeme : (at b : ℕ) (rest : List ℕ) (sort : Sort) (more : ℕ) (r : Result (List Lexeme) LexFault) (ls : List Lexeme) → Stands (Some sort) (take (suc more) (b ∷ rest)) (drop more rest) → IsInLimits sort (take (suc more) (b ∷ rest)) → length (take (suc more) (b ∷ rest)) ≡ suc more → ((ms : List Lexeme) → r ≡ Ok ms → SpellsLexemes (at + 1 + more) (drop more rest) ms) → with_front (record { sort = sort; at = at; len = more + 1 } ∷ []) r ≡ Ok ls → SpellsLexemes at (b ∷ rest) ls
 spelled_lexeme at b rest sort more (Err fault) ls s f count behind e = cc
 spelled_lexeme at b rest sort more (Ok ms) ls s f count behind e =
     let front = take (suc more) (b ∷ rest) in
     let place : at + 1 + more ≡ at + length front = omega (arith, count) in
     let len : length front ≡ more + 1 = omega (arith, count) in
-    let P : ℕ → Type 0 = λ k. Spells k (drop more rest) ms in
-    let Q : List ℕ → Type 0 = λ bytes. Spells at bytes (record { sort = sort; at = at; len = length front } ∷ ms) in
+    let P : ℕ → Type 0 = λ k. SpellsLexemes k (drop more rest) ms in
+    let Q : List ℕ → Type 0 = λ bytes. SpellsLexemes at bytes (record { sort = sort; at = at; len = length front } ∷ ms) in
     let all : record { sort = sort; at = at; len = more + 1 } ∷ ms ≡ ls = cc in
     let same : record { sort = sort; at = at; len = length front } ∷ ms ≡ ls = ap (λ (n : ℕ). record { sort = sort; at = at; len = n } ∷ ms) len ∙ all in
-    subst (Spells at (b ∷ rest)) same (subst Q (take-append-drop (suc more) (b ∷ rest)) (lexeme sort front s f (subst P place (behind ms refl))))
+    subst (SpellsLexemes at (b ∷ rest)) same (subst Q (take-append-drop (suc more) (b ∷ rest)) (lexeme sort front s f (subst P place (behind ms refl))))
 
 -- the lexemes behind what stands at the front
-spelled_front : (at b : ℕ) (rest : List ℕ) (front : Front) (next : ℕ → Result (List Lexeme) LexFault) (ls : List Lexeme) → Agrees (b ∷ rest) front (size_of b rest) → ((k : ℕ) (ms : List Lexeme) → k ≤ length rest → next k ≡ Ok ms → Spells (at + 1 + k) (drop k rest) ms) → by_front at front next ≡ Ok ls → Spells at (b ∷ rest) ls
+spelled_front : (at b : ℕ) (rest : List ℕ) (front : Front) (next : ℕ → Result (List Lexeme) LexFault) (ls : List Lexeme) → Agrees (b ∷ rest) front (size_of b rest) → ((k : ℕ) (ms : List Lexeme) → k ≤ length rest → next k ≡ Ok ms → SpellsLexemes (at + 1 + k) (drop k rest) ms) → by_front at front next ≡ Ok ls → SpellsLexemes at (b ∷ rest) ls
 spelled_front at b rest (fronts.Blank more) next ls a behind e =
     let s = stands b rest None (suc more) a in
     let count : length (take (suc more) (b ∷ rest)) ≡ suc more = length-take-le (suc more) (b ∷ rest) s.1 in
     let place : at + 1 + more ≡ at + length (take (suc more) (b ∷ rest)) = omega (arith, count) in
-    let P : ℕ → Type 0 = λ k. Spells k (drop more rest) ls in
-    let Q : List ℕ → Type 0 = λ bytes. Spells at bytes ls in
+    let P : ℕ → Type 0 = λ k. SpellsLexemes k (drop more rest) ls in
+    let Q : List ℕ → Type 0 = λ bytes. SpellsLexemes at bytes ls in
     subst Q (take-append-drop (suc more) (b ∷ rest)) (blank (take (suc more) (b ∷ rest)) s.0 (subst P place (behind more ls (omega (arith, s.1)) e)))
 spelled_front at b rest (fronts.Lexeme sort more) next ls a behind e =
     let s = stands b rest (Some sort) (suc more) a.0 in
@@ -49,19 +49,19 @@ spelled_front at b rest (fronts.Lexeme sort more) next ls a behind e =
     spelled_lexeme at b rest sort more (next more) ls s.0 a.1 count (λ ms h. behind more ms (omega (arith, s.1)) h) e
 spelled_front at b rest (fronts.Flaw fault) next ls a behind e = cc
 
-sound : (at k there : ℕ) (bytes : List ℕ) (ls : List Lexeme) → there ≡ at + k → k ≤ length bytes → lexemes at k bytes ≡ Ok ls → Spells there (drop k bytes) ls
-sound at zero there [] ls p h e = let same : [] ≡ ls = cc in subst (Spells there []) same nothing
+sound : (at k there : ℕ) (bytes : List ℕ) (ls : List Lexeme) → there ≡ at + k → k ≤ length bytes → lexemes at k bytes ≡ Ok ls → SpellsLexemes there (drop k bytes) ls
+sound at zero there [] ls p h e = let same : [] ≡ ls = cc in subst (SpellsLexemes there []) same nothing
 sound at (suc k) there [] ls p h e = absurd (omega arith)
 sound at (suc k) there (b ∷ rest) ls p h e = sound (at + 1) k there rest ls (omega (arith, p)) (omega arith) e
 sound at zero there (b ∷ rest) ls p h e =
-    let P : ℕ → Type 0 = λ n. Spells n (b ∷ rest) ls in
+    let P : ℕ → Type 0 = λ n. SpellsLexemes n (b ∷ rest) ls in
     let same : at ≡ there = omega (arith, p) in
     subst P same
     (spelled_front at b rest (front_of at (b ∷ rest)) (λ k. lexemes (at + 1) k rest) ls (front_agrees at b rest)
     (λ k ms w g. sound (at + 1) k (at + 1 + k) rest ms refl w g) e)
 
 -- the lexemes are spelled
-pub lexemes_spelled : (bytes : List ℕ) (ls : List Lexeme) → lexemes 0 0 bytes ≡ Ok ls → Spells 0 bytes ls
+pub lexemes_spelled : (bytes : List ℕ) (ls : List Lexeme) → lexemes 0 0 bytes ≡ Ok ls → SpellsLexemes 0 bytes ls
 lexemes_spelled bytes ls e = sound 0 0 0 bytes ls refl (omega arith) e
 
 -- what stands at the front is found there
@@ -107,7 +107,7 @@ blank_is bytes (fronts.Blank more) size n e a = let same : ◌≡◌ {A = Size} 
 blank_is bytes (fronts.Lexeme sort more) size n e a = let same : ◌≡◌ {A = Size} (Some (Some sort, suc more)) (Some (None, n)) = sym a.0 ∙ e in absurd (some_none sort (thing_same (Some sort) None (suc more) n same))
 blank_is bytes (fronts.Flaw fault) size n e a = absurd (subst (Agrees bytes (fronts.Flaw fault)) e a)
 
-lexeme_is : (bytes : List ℕ) (front : Front) (size : Size) (sort : Sort) (n : ℕ) → size ≡ Some (Some sort, n) → Fits sort (take n bytes) → Agrees bytes front size → (more : ℕ) × (fronts.Lexeme sort more ≡ front) × (suc more ≡ n)
+lexeme_is : (bytes : List ℕ) (front : Front) (size : Size) (sort : Sort) (n : ℕ) → size ≡ Some (Some sort, n) → IsInLimits sort (take n bytes) → Agrees bytes front size → (more : ℕ) × (fronts.Lexeme sort more ≡ front) × (suc more ≡ n)
 lexeme_is bytes (fronts.Blank more) size sort n e f a = let same : ◌≡◌ {A = Size} (Some (None, suc more)) (Some (Some sort, n)) = sym a ∙ e in absurd (some_none sort (sym (thing_same None (Some sort) (suc more) n same)))
 lexeme_is bytes (fronts.Lexeme other more) size sort n e f a =
     let same : ◌≡◌ {A = Size} (Some (Some other, suc more)) (Some (Some sort, n)) = sym a.0 ∙ e in
@@ -127,11 +127,11 @@ complete_blank at front rest (b ∷ bytes) r e f h =
     ∙ ap (λ (xs : List ℕ). lexemes (at + length front) 0 (drop (length front) xs)) e
     ∙ ap (lexemes (at + length front) 0) (drop-front front rest) ∙ h
 
-pub complete_lexeme : (at : ℕ) (sort : Sort) (front rest bytes : List ℕ) (r : Result (List Lexeme) LexFault) → bytes ≡ front ++ rest → IsFound (Some sort) (length front) bytes → Fits sort front → lexemes (at + length front) 0 rest ≡ r → lexemes at 0 bytes ≡ with_front (record { sort = sort; at = at; len = length front } ∷ []) r
+pub complete_lexeme : (at : ℕ) (sort : Sort) (front rest bytes : List ℕ) (r : Result (List Lexeme) LexFault) → bytes ≡ front ++ rest → IsFound (Some sort) (length front) bytes → IsInLimits sort front → lexemes (at + length front) 0 rest ≡ r → lexemes at 0 bytes ≡ with_front (record { sort = sort; at = at; len = length front } ∷ []) r
 complete_lexeme at sort front rest [] r e f fits h = absurd f
 complete_lexeme at sort front rest (b ∷ bytes) r e f fits h =
     let first : take (length front) (b ∷ bytes) ≡ front = ap (take (length front)) e ∙ take-front front rest in
-    let k = lexeme_is (b ∷ bytes) (front_of at (b ∷ bytes)) (size_of b bytes) sort (length front) f (subst (Fits sort) (sym first) fits) (front_agrees at b bytes) in
+    let k = lexeme_is (b ∷ bytes) (front_of at (b ∷ bytes)) (size_of b bytes) sort (length front) f (subst (IsInLimits sort) (sym first) fits) (front_agrees at b bytes) in
     let count : k.0 + 1 ≡ length front = omega (arith, k.2) in
     let behind : lexemes (at + length front) 0 (drop (length front) (b ∷ bytes)) ≡ r =
     ap (λ (xs : List ℕ). lexemes (at + length front) 0 (drop (length front) xs)) e ∙ ap (lexemes (at + length front) 0) (drop-front front rest) ∙ h in
@@ -140,7 +140,7 @@ complete_lexeme at sort front rest (b ∷ bytes) r e f fits h =
     ∙ ap (with_front (record { sort = sort; at = at; len = length front } ∷ [])) behind
 
 -- what is spelled are the lexemes
-pub spelled_lexemes : (at : ℕ) (bytes : List ℕ) (ls : List Lexeme) → Spells at bytes ls → lexemes at 0 bytes ≡ Ok ls
+pub spelled_lexemes : (at : ℕ) (bytes : List ℕ) (ls : List Lexeme) → SpellsLexemes at bytes ls → lexemes at 0 bytes ≡ Ok ls
 spelled_lexemes at bytes ls nothing = refl
 spelled_lexemes at bytes ls (blank {rest = rest} {lexemes = ms} front s h) =
     complete_blank at front rest (front ++ rest) (Ok ms) refl (found None front (front ++ rest) s.longest (size_covers None front rest s.is)) (spelled_lexemes (at + length front) rest ms h)
@@ -148,13 +148,13 @@ spelled_lexemes at bytes ls (lexeme {rest = rest} {lexemes = ms} sort front s f 
     complete_lexeme at sort front rest (front ++ rest) (Ok ms) refl (found (Some sort) front (front ++ rest) s.longest (size_covers (Some sort) front rest s.is)) f (spelled_lexemes (at + length front) rest ms h)
 
 -- no bytes spell two lists
-pub one_spelling : (bytes : List ℕ) (ls ms : List Lexeme) → Spells 0 bytes ls → Spells 0 bytes ms → ls ≡ ms
+pub one_spelling : (bytes : List ℕ) (ls ms : List Lexeme) → SpellsLexemes 0 bytes ls → SpellsLexemes 0 bytes ms → ls ≡ ms
 one_spelling bytes ls ms h k =
     let same : Ok ls ≡ Ok ms = sym (spelled_lexemes 0 bytes ls h) ∙ spelled_lexemes 0 bytes ms k in
     cc
 
 -- an answer with the lexemes is spelled
-pub gives_spelled : {A : Type 0} (answer : Result (Vec Lexeme A) LexFault) (bytes : List ℕ) → Gives answer (lexemes 0 0 bytes) → IfOk answer (λ found. Spells 0 bytes found.items)
+pub gives_spelled : {A : Type 0} (answer : Result (Vec Lexeme A) LexFault) (bytes : List ℕ) → Gives answer (lexemes 0 0 bytes) → IfOk answer (λ found. SpellsLexemes 0 bytes found.items)
 gives_spelled (Ok found) bytes h = lexemes_spelled bytes found.items h
 gives_spelled (Err fault) bytes h = tt
 

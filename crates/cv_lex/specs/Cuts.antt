@@ -3,7 +3,7 @@ use Rattle.std.specs.Prelude.{◌≡◌, ℕ, ◌+◌, ◌-◌, ◌<◌, ◌≤�
 use Rattle.std.specs.Str.{IsCharBoundary}
 use Rattle.cv_lex.specs.declared.lexeme.Sort.TheVariants as sorts
 use Rattle.cv_lex.specs.declared.lexeme.Lexeme.{Lexeme}
-use Rattle.cv_lex.specs.Shapes.{Fits, IsName}
+use Rattle.cv_lex.specs.Shapes.{IsInLimits, IsName}
 use Rattle.cv_lex.specs.Words.{bytes_of}
 
 -- the lexeme has bytes, they are in the source and keep the limits of their sort, and neither they nor those between the
@@ -12,7 +12,7 @@ pub record IsCut (source : List ℕ) (lexeme : Lexeme) : Type 0 where
   pub some : 0 < lexeme.len
   pub quotes : lexeme.sort ≡ sorts.Text → 2 ≤ lexeme.len
   pub within : lexeme.at + lexeme.len ≤ length source
-  pub fits : Fits lexeme.sort (bytes_of source lexeme)
+  pub fits : IsInLimits lexeme.sort (bytes_of source lexeme)
   pub start : IsCharBoundary source lexeme.at
   pub opened : IsCharBoundary source (lexeme.at + 1)
   pub closed : IsCharBoundary source (lexeme.at + lexeme.len - 1)

@@ -4,14 +4,14 @@ use Rattle.cv_lex.specs.declared.lexeme.Sort.{Sort}
 use Rattle.cv_lex.specs.declared.lexeme.Sort.TheVariants as sorts
 use Rattle.cv_lex.specs.declared.lexeme.LexFault.{LexFault}
 use Rattle.cv_lex.specs.declared.lexeme.LexFault.TheVariants as faults
-use Rattle.cv_lex.specs.Shapes.{IsAt, Stands, Fits}
+use Rattle.cv_lex.specs.Shapes.{IsAt, Stands, IsInLimits}
 use Rattle.cv_lex.specs.Texts.{said_from, bad_of}
 
 -- from a place on, white space, comments and lexemes lead to a place with what is left there
-pub data Leads : ℕ → List ℕ → ℕ → List ℕ → Type 0 where
-  here : {at : ℕ} {bytes : List ℕ} → Leads at bytes at bytes
-  blank : {at place : ℕ} {rest left : List ℕ} (front : List ℕ) → Stands None front rest → Leads (at + length front) rest place left → Leads at (front ++ rest) place left
-  lexeme : {at place : ℕ} {rest left : List ℕ} (sort : Sort) (front : List ℕ) → Stands (Some sort) front rest → Fits sort front → Leads (at + length front) rest place left → Leads at (front ++ rest) place left
+pub data ReadsOn : ℕ → List ℕ → ℕ → List ℕ → Type 0 where
+  here : {at : ℕ} {bytes : List ℕ} → ReadsOn at bytes at bytes
+  blank : {at place : ℕ} {rest left : List ℕ} (front : List ℕ) → Stands None front rest → ReadsOn (at + length front) rest place left → ReadsOn at (front ++ rest) place left
+  lexeme : {at place : ℕ} {rest left : List ℕ} (sort : Sort) (front : List ℕ) → Stands (Some sort) front rest → IsInLimits sort front → ReadsOn (at + length front) rest place left → ReadsOn at (front ++ rest) place left
 
 -- neither white space, nor a comment, nor a lexeme stands at the front
 abbrev pub NothingStands : List ℕ → Type 0
@@ -27,7 +27,7 @@ OpensText left = (tail : List ℕ) × (left ≡ 34 ∷ tail)
 
 -- what stands at the front, the longest, with what follows it, is beyond a limit
 abbrev pub Exceeds : Sort → List ℕ → Type 0
-Exceeds sort left = (front : List ℕ) × (tail : List ℕ) × (left ≡ front ++ tail) × Stands (Some sort) front tail × (Fits sort front → ⊥)
+Exceeds sort left = (front : List ℕ) × (tail : List ℕ) × (left ≡ front ++ tail) × Stands (Some sort) front tail × (IsInLimits sort front → ⊥)
 
 -- a text stands at the front, and its first bad escape is at a distance from its quote
 abbrev pub HasBadEscape : ℕ → List ℕ → Type 0
@@ -47,7 +47,7 @@ IsFaultAt faults.OutOfMemory place left = ⊥
 
 -- the text leads to the fault
 abbrev pub HasFault : List ℕ → LexFault → Type 0
-HasFault bytes fault = (place : ℕ) × (left : List ℕ) × Leads 0 bytes place left × IsFaultAt fault place left
+HasFault bytes fault = (place : ℕ) × (left : List ℕ) × ReadsOn 0 bytes place left × IsFaultAt fault place left
 
 -- a fault is the text's, but want of memory may come at any time
 abbrev pub IsCaused : List ℕ → LexFault → Type 0

@@ -77,9 +77,9 @@ pub record Stands (thing : Option Sort) (front rest : List ℕ) : Type 0 where
   pub longest : (other : Option Sort) (longer tail : List ℕ) → front ++ rest ≡ longer ++ tail → IsAt other longer tail → length longer ≤ length front
 
 -- the limits: a name has at most 64 bytes, an integer 64 signed bits, and each escape of a text says a character
-abbrev pub Fits : Sort → List ℕ → Type 0
-Fits sorts.Name bytes = length bytes ≤ 64
-Fits sorts.Int bytes = is_some (int_of bytes) ≡ true
-Fits sorts.Fraction bytes = Unit {0}
-Fits sorts.Text bytes = bad_of (said_from 0 0 (take (length bytes - 2) (drop 1 bytes))) ≡ None
-Fits sorts.Mark bytes = Unit {0}
+abbrev pub IsInLimits : Sort → List ℕ → Type 0
+IsInLimits sorts.Name bytes = length bytes ≤ 64
+IsInLimits sorts.Int bytes = is_some (int_of bytes) ≡ true
+IsInLimits sorts.Fraction bytes = Unit {0}
+IsInLimits sorts.Text bytes = bad_of (said_from 0 0 (take (length bytes - 2) (drop 1 bytes))) ≡ None
+IsInLimits sorts.Mark bytes = Unit {0}

@@ -4,7 +4,7 @@ ghost use Rattle.std.specs.Prelude.{◌≡◌, ◌+◌, ◌<◌, ◌≤◌, ◌^
 ghost use Rattle.cv_lex.specs.Faults.{HasFault, IsCaused};
 ghost use Rattle.cv_lex.specs.Lexemes.{lexemes, with_front, Fails, Gives, Rise};
 ghost use Rattle.cv_lex.specs.Shapes.{IsAt, Stands};
-ghost use Rattle.cv_lex.specs.Spelling.{Spells};
+ghost use Rattle.cv_lex.specs.Spelling.{SpellsLexemes};
 ghost use Rattle.cv_lex.specs.declared.lexeme.LexFault.{LexFault};
 ghost use Rattle.cv_lex.specs.declared.lexeme.Lexeme.{Lexeme};
 ghost use Rattle.cv_lex.specs.declared.lexeme.Sort.{Sort};
@@ -60,8 +60,8 @@ pub fn lex(alloc: Global, source: &str) -> Result<Vec<Lexeme>, LexFault>
     ensures exact { Gives result (lexemes 0 0 source.now) }
 
     // Unless memory runs out, the answer is Ok exactly where the source spells lexemes.
-    ensures found { IfOk result (λ found. Spells 0 source.now found.items) }
-    ensures only { (spelled : List Lexeme) → Spells 0 source.now spelled → Gives result (Ok spelled) }
+    ensures found { IfOk result (λ found. SpellsLexemes 0 source.now found.items) }
+    ensures only { (spelled : List Lexeme) → SpellsLexemes 0 source.now spelled → Gives result (Ok spelled) }
 
     // The spans rise, and end within the source.
     ensures rising { IfOk result (λ found. Rise 0 found.items (length source.now)) }
@@ -76,8 +76,8 @@ pub fn lex(alloc: Global, source: &str) -> Result<Vec<Lexeme>, LexFault>
 
 /// No bytes spell two lists of lexemes, and the lexemes of bytes are those that they spell.
 pub fn one_spelling()
-    ensures one { (bytes : List ℕ) (first second : List Lexeme) → Spells 0 bytes first → Spells 0 bytes second → first ≡ second }
-    ensures same { (bytes : List ℕ) (spelled : List Lexeme) → (lexemes 0 0 bytes ≡ Ok spelled) ↔ Spells 0 bytes spelled }
+    ensures one { (bytes : List ℕ) (first second : List Lexeme) → SpellsLexemes 0 bytes first → SpellsLexemes 0 bytes second → first ≡ second }
+    ensures same { (bytes : List ℕ) (spelled : List Lexeme) → (lexemes 0 0 bytes ≡ Ok spelled) ↔ SpellsLexemes 0 bytes spelled }
 {}
 
 /// A lexeme that a space follows is the longest that stands there, and so is the space: what a

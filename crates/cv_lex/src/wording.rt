@@ -2,8 +2,8 @@
 
 ghost use Rattle.std.specs.Prelude.{◌≡◌, ◌<◌, ◌≤◌, length, map, IfOk, All};
 ghost use Rattle.cv_lex.specs.Cuts.{IsCut, IsNamed};
-ghost use Rattle.cv_lex.specs.Spelling.{Spells};
-ghost use Rattle.cv_lex.specs.Shapes.{Fits, IsName};
+ghost use Rattle.cv_lex.specs.Spelling.{SpellsLexemes};
+ghost use Rattle.cv_lex.specs.Shapes.{IsInLimits, IsName};
 ghost use Rattle.cv_lex.specs.Words.{name_word, reserved_of, bytes_of, inside_of, placed_word};
 
 use crate::lexeme::{Lexeme, Sort};
@@ -15,7 +15,7 @@ use cv_token::{OutOfMemory, Text};
 use std::alloc::Global;
 
 /// A text of its own.
-fn owned(alloc: Global, part: &str) -> Result<Text, OutOfMemory>
+fn own_text(alloc: Global, part: &str) -> Result<Text, OutOfMemory>
     ensures { IfOk result (λ text. text ≡ part.now) }
 {
     Ok(Text::from_string(String::from_str(alloc, part)?))
@@ -28,7 +28,7 @@ fn name_word(alloc: Global, name: &str) -> Result<Word, OutOfMemory>
 {
     match reserved_of(name) {
         Some(word) => Ok(Word::Reserved(word)),
-        None => Ok(Word::Name(NameText::new(owned(alloc, name)?))),
+        None => Ok(Word::Name(NameText::new(own_text(alloc, name)?))),
     }
 }
 
@@ -64,7 +64,7 @@ fn word_of(alloc: Global, source: &str, lexeme: &Lexeme) -> Result<Word, OutOfMe
     match lexeme.sort {
         Sort::Name => name_word(alloc, part),
         Sort::Int => Ok(Word::Int(int_value(part.as_bytes()).unwrap_or(0))),
-        Sort::Fraction => Ok(Word::Fraction(owned(alloc, part)?)),
+        Sort::Fraction => Ok(Word::Fraction(own_text(alloc, part)?)),
         Sort::Text => Ok(Word::Text(said(alloc, inside_of(source, lexeme))?)),
         Sort::Mark => Ok(Word::Mark(mark_of(part.as_bytes()))),
     }
@@ -72,12 +72,12 @@ fn word_of(alloc: Global, source: &str, lexeme: &Lexeme) -> Result<Word, OutOfMe
 
 /// The words that the lexemes of a source are, with their places.
 pub fn words(alloc: Global, source: &str, found: &[Lexeme]) -> Result<Vec<Placed>, OutOfMemory>
-    requires { Spells 0 source.now found.now }
+    requires { SpellsLexemes 0 source.now found.now }
     ensures words { IfOk result (λ words. words.items ≡ map (placed_word source.now) found.now) }
 
     // So each integer has its number, and each text says characters: what a word of another lexeme
     // would be does not matter.
-    ensures fit { All (λ lexeme. Fits lexeme.sort (bytes_of source.now lexeme)) found.now }
+    ensures fit { All (λ lexeme. IsInLimits lexeme.sort (bytes_of source.now lexeme)) found.now }
 {
     let mut words = Vec::new(alloc);
     for lexeme in found {

@@ -5,7 +5,7 @@ ghost use Rattle.cv_protocol.specs.Journals.{entry_of};
 ghost use Rattle.cv_merge.specs.Choice.{better, least_from};
 ghost use Rattle.cv_merge.specs.Lanes.{Ascends, NothingLeft, TakesLeast, numbers};
 
-use crate::source::Source;
+use crate::unmerged::Unmerged;
 use cv_protocol::{Entry, Step};
 
 /// The earlier one of the best so far and the next, by places and stamps; of equal stamps the one so far.
@@ -20,7 +20,7 @@ fn better(best: Option<(usize, u64)>, place: usize, stamp: Option<u64>) -> Optio
 }
 
 /// The place of the journal whose first entry is the earliest, with its stamp.
-fn least(sources: &[Source]) -> Option<(usize, u64)>
+fn least(sources: &[Unmerged]) -> Option<(usize, u64)>
     ensures least { result ≡ least_from None 0 sources.now }
     ensures within { IfSome result (λ found. found.0 < length sources.now) }
 {
@@ -33,7 +33,7 @@ fn least(sources: &[Source]) -> Option<(usize, u64)>
 
 /// Takes the earliest entry that is left; of equal stamps that of the least node.
 
-pub fn next_step(sources: &mut [Source]) -> Option<Step>
+pub fn next_step(sources: &mut [Unmerged]) -> Option<Step>
     requires { Ascends (numbers sources.old) }
     ensures { MatchOption result (NothingLeft sources.old) (λ step. TakesLeast sources.old step sources.new) }
 {

@@ -4,7 +4,7 @@
 mod choosing;
 pub mod law;
 mod merging;
-mod source;
+mod unmerged;
 
 pub use law::{record_is_sorted, sent_before};
 pub use merging::merge;

@@ -5,7 +5,7 @@ ghost use Rattle.cv_protocol.specs.Journals.{IsRecordOf};
 ghost use Rattle.cv_merge.specs.Lanes.{Ascends, entries_at, journal_at, lane_of, lanes_of, numbers};
 
 use crate::choosing::next_step;
-use crate::source::Source;
+use crate::unmerged::Unmerged;
 use cv_protocol::{Journal, NodeSpecs, Record, Steps};
 use cv_rules::NodeSpec;
 use cv_token::OutOfMemory;
@@ -23,7 +23,10 @@ pub fn merge(alloc: Global, journals: Vec<Journal>) -> Result<Record, OutOfMemor
 }
 
 /// What the nodes are, and all entries of each journal.
-fn open_all(alloc: Global, journals: Vec<Journal>) -> Result<(NodeSpecs, Vec<Source>), OutOfMemory>
+fn open_all(
+    alloc: Global,
+    journals: Vec<Journal>,
+) -> Result<(NodeSpecs, Vec<Unmerged>), OutOfMemory>
     ensures specs { IfOk result (λ all. all.0 ≡ map (λ j. j.spec) journals.items) }
     ensures sources { IfOk result (λ all. all.1.items ≡ lanes_of journals.items) }
 {
@@ -38,7 +41,7 @@ fn open_all(alloc: Global, journals: Vec<Journal>) -> Result<(NodeSpecs, Vec<Sou
 }
 
 /// What the node is, and all entries of its journal.
-fn open(journal: Journal) -> (NodeSpec, Source)
+fn open(journal: Journal) -> (NodeSpec, Unmerged)
     ensures spec { result.0 ≡ journal.spec }
     ensures source { result.1 ≡ lane_of journal }
 {
@@ -47,12 +50,12 @@ fn open(journal: Journal) -> (NodeSpec, Source)
         dropped: _,
         entries,
     } = journal;
-    let source = Source::new(spec.no, entries);
+    let source = Unmerged::new(spec.no, entries);
     (spec, source)
 }
 
 /// The record of what is left of the journals.
-fn drain(alloc: Global, sources: &mut [Source]) -> Result<Steps, OutOfMemory>
+fn drain(alloc: Global, sources: &mut [Unmerged]) -> Result<Steps, OutOfMemory>
     requires { Ascends (numbers sources.old) }
     ensures { IfOk result (λ steps. IsRecordOf (entries_at sources.old) steps) }
 {

@@ -14,7 +14,7 @@ use Rattle.cv_protocol.specs.NodeRow.{row, stamp_of}
 use Rattle.cv_protocol.specs.Rows.{Did}
 use Rattle.cv_protocol.specs.Journals.{did_if, did_at, next_of, replay, Sends}
 use Rattle.cv_state.specs.Steps.{LeadsTo, frames_of}
-use Rattle.cv_node.specs.Journalled.{Journalled, IsReplay, Steps, entry_of_row}
+use Rattle.cv_node.specs.Journalled.{Journalled, IsReplay, MakesStep, entry_of_row}
 use Rattle.cv_node.proofs.Replays.{replays_step, stamped}
 use Rattle.cv_station.specs.Acts.{FirstDoes, NodeDoes}
 use Rattle.cv_mesh.specs.Keeping.{StandsSent}
@@ -74,7 +74,7 @@ own_at s event d f is c =
 did_here : (s : NodeState) (event : Event) (d : Did) → row s event ≡ Some d → did_at s (entry_of_row s event) ≡ Some d
 did_here s event d is = ap (λ b. did_if b (row s event)) (eq-eqb (stamp_of s event) (stamp_of s event) refl) ∙ is
 
-step_sends : (old new : Journalled) (event : Event) (sent : Sent) (f : Frame) → IsReplay old.base old.state old.entries → Steps old event sent new → Contains (frames_of sent) f → StandsSent new f
+step_sends : (old new : Journalled) (event : Event) (sent : Sent) (f : Frame) → IsReplay old.base old.state old.entries → MakesStep old event sent new → Contains (frames_of sent) f → StandsSent new f
 step_sends old new event sent f kept steps c =
     let l = leading (row old.state event) new.state sent steps.does in
     let there : Contains l.did.sends f = subst (λ (fs : List Frame). Contains fs f) l.frames c in
@@ -93,7 +93,7 @@ step_sends old new event sent f kept steps c =
       from = own.from ∙ ap (λ (x : NodeSpec). x.no) (replay_spec old.entries old.base old.state kept.replays) ∙ ap (λ (s : NodeState). s.spec.no) (sym steps.based);
     }
 
-step_replays : (old new : Journalled) (event : Event) (sent : Sent) → IsReplay old.base old.state old.entries → Steps old event sent new → IsReplay new.base new.state new.entries
+step_replays : (old new : Journalled) (event : Event) (sent : Sent) → IsReplay old.base old.state old.entries → MakesStep old event sent new → IsReplay new.base new.state new.entries
 step_replays old new event sent kept steps =
     let stamp = stamped old.state event new.state sent steps.does in
     let entry : record { stamp = new.state.stamp; event = event } ≡ entry_of_row old.state event = ap (λ (t : ℕ). record { stamp = t; event = event }) stamp in

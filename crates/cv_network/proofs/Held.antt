@@ -10,7 +10,7 @@ use Rattle.cv_token.specs.Shape.{depth, greatest_value}
 use Rattle.cv_token.specs.Spells.{IsTree}
 use Rattle.cv_token.proofs.Levels.{is_token-Dict}
 use Rattle.cv_kinds.specs.declared.network.ActorSpec.{ActorSpec}
-use Rattle.cv_kinds.specs.declared.network.Join.{Join}
+use Rattle.cv_kinds.specs.declared.network.Connection.{Connection}
 use Rattle.cv_kinds.specs.Net.{Net}
 use Rattle.cv_kinds.specs.Table.{line_of}
 use Rattle.cv_kinds.specs.WellFormed.{IsSpec, IsWellFormed}
@@ -44,7 +44,7 @@ consumer_there : (o : Option ActorSpec) (port : ℕ) → HasInport o port → (a
 consumer_there None port h = absurd h
 consumer_there (Some a) port h = (a, refl)
 
-a_connection : (actors : List ActorSpec) → length actors ≤ 256 → (j : Join) → Joins actors j → Within 18 (connection_token actors j)
+a_connection : (actors : List ActorSpec) → length actors ≤ 256 → (j : Connection) → Joins actors j → Within 18 (connection_token actors j)
 a_connection actors few j is =
     let p = producer_there (slice_get actors j.from) j.out is.producer in
     let q = consumer_there (slice_get actors j.to) j.inp is.consumer in

@@ -4,7 +4,7 @@ use Rattle.cv_token.specs.declared.token.Token.{Token}
 use Rattle.cv_token.specs.declared.token.Token.TheVariants as token
 use Rattle.cv_token.specs.Spelling.{spelling}
 use Rattle.cv_kinds.specs.declared.network.ActorSpec.{ActorSpec}
-use Rattle.cv_kinds.specs.declared.network.Join.{Join}
+use Rattle.cv_kinds.specs.declared.network.Connection.{Connection}
 use Rattle.cv_kinds.specs.Net.{Net}
 use Rattle.cv_kinds.specs.Table.{line_of}
 
@@ -25,14 +25,14 @@ inport_of number None = token.Null
 inport_of number (Some a) = port_token (line_of a.kind).inports number
 
 -- the outport of a connection, by its name
-abbrev pub outport_token : List ActorSpec → Join → Token
+abbrev pub outport_token : List ActorSpec → Connection → Token
 outport_token actors j = outport_of j.out (slice_get actors j.from)
 
-abbrev pub inport_token : List ActorSpec → Join → Token
+abbrev pub inport_token : List ActorSpec → Connection → Token
 inport_token actors j = inport_of j.inp (slice_get actors j.to)
 
 -- `[FROM,OUTPORT,TO,INPORT]`
-abbrev pub connection_token : List ActorSpec → Join → Token
+abbrev pub connection_token : List ActorSpec → Connection → Token
 connection_token actors j = token.List (token.Int (pos j.from) ∷ outport_token actors j ∷ token.Int (pos j.to) ∷ inport_token actors j ∷ [])
 
 -- `[PATH,KIND,ARGUMENTS,null]`

@@ -1,14 +1,14 @@
 //! Connections of a network out of their trees.
 
 ghost use Rattle.std.specs.Prelude.{◌≡◌, ◌<◌, ◌≤◌, ℕ, All, List, IfOk, MatchOption, Some, length, map, pos, slice_get};
-ghost use Rattle.cv_kinds.specs.declared.network.Join.{Join};
+ghost use Rattle.cv_kinds.specs.declared.network.Connection.{Connection};
 ghost use Rattle.cv_kinds.specs.KindRow.{row_of};
 ghost use Rattle.cv_kinds.specs.Table.{line_of};
 ghost use Rattle.cv_kinds.specs.Wired.{HasInport, HasOutport, Joins};
 ghost use Rattle.cv_network.specs.Written.{connection_token, inport_of, inport_token, outport_of, outport_token, port_token};
 ghost use Rattle.cv_token.specs.declared.token.Token.TheVariants as tree;
 
-use cv_kinds::{ActorSpec, Join, Kind, inport, outport};
+use cv_kinds::{ActorSpec, Connection, Kind, inport, outport};
 use cv_token::{OutOfMemory, Token};
 use std::alloc::Global;
 
@@ -17,8 +17,8 @@ pub(crate) fn joins_of(
     alloc: Global,
     actors: &[ActorSpec],
     items: &[Token],
-) -> Result<Option<Vec<Join>>, OutOfMemory>
-    ensures { (joins : List Join) → length actors.now ≤ 256 → All (Joins actors.now) joins → items.now ≡ map (connection_token actors.now) joins
+) -> Result<Option<Vec<Connection>>, OutOfMemory>
+    ensures { (joins : List Connection) → length actors.now ≤ 256 → All (Joins actors.now) joins → items.now ≡ map (connection_token actors.now) joins
         → IfOk result (λ found. MatchOption found ⊥ (λ list. list.items ≡ joins)) }
 {
     let mut joins = Vec::with_capacity(alloc, items.len())?;
@@ -32,8 +32,8 @@ pub(crate) fn joins_of(
 }
 
 /// The connection that has this tree.
-fn join_of(actors: &[ActorSpec], token: &Token) -> Option<Join>
-    ensures { (join : Join) → length actors.now ≤ 256 → Joins actors.now join → token.now ≡ connection_token actors.now join → result ≡ Some join }
+fn join_of(actors: &[ActorSpec], token: &Token) -> Option<Connection>
+    ensures { (join : Connection) → length actors.now ≤ 256 → Joins actors.now join → token.now ≡ connection_token actors.now join → result ≡ Some join }
 {
     let Token::List(parts) = token else {
         return None;
@@ -52,19 +52,19 @@ fn join_with(
     out: &Token,
     to: &Token,
     inp: &Token,
-) -> Option<Join>
-    ensures { (join : Join) → length actors.now ≤ 256 → Joins actors.now join → from.now ≡ tree.Int (pos join.from) → out.now ≡ outport_token actors.now join
+) -> Option<Connection>
+    ensures { (join : Connection) → length actors.now ≤ 256 → Joins actors.now join → from.now ≡ tree.Int (pos join.from) → out.now ≡ outport_token actors.now join
         → to.now ≡ tree.Int (pos join.to) → inp.now ≡ inport_token actors.now join → result ≡ Some join }
 {
-    let from = place_of(from)?;
+    let from = read_place(from)?;
     let out = outport_in(actors, from, out)?;
-    let to = place_of(to)?;
+    let to = read_place(to)?;
     let inp = inport_in(actors, to, inp)?;
-    Some(Join { from, out, to, inp })
+    Some(Connection { from, out, to, inp })
 }
 
 /// The place of an actor.
-fn place_of(token: &Token) -> Option<u16>
+fn read_place(token: &Token) -> Option<u16>
     ensures { (place : ℕ) → place ≤ 256 → token.now ≡ tree.Int (pos place) → result ≡ Some place }
 {
     match token {

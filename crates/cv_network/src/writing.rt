@@ -4,7 +4,7 @@ ghost use Rattle.std.specs.Prelude.{◌≡◌, map, IfOk};
 ghost use Rattle.cv_token.specs.declared.token.Token.TheVariants as tokens;
 ghost use Rattle.cv_network.specs.Written.{network_spelling, network_token, actor_token, connection_token, port_token, outport_token, inport_token};
 
-use cv_kinds::{ActorSpec, Join, Network, name};
+use cv_kinds::{ActorSpec, Connection, Network, name};
 use cv_token::{Items, OutOfMemory, Pair, Pairs, Text, Token, copy_items, text};
 use std::alloc::Global;
 
@@ -68,7 +68,7 @@ fn actor_token(alloc: Global, actor: &ActorSpec) -> Result<Token, OutOfMemory>
 fn connection_tokens(
     alloc: Global,
     actors: &[ActorSpec],
-    connections: &[Join],
+    connections: &[Connection],
 ) -> Result<Items, OutOfMemory>
     ensures { IfOk result (λ tokens. tokens ≡ map (connection_token actors.now) connections.now) }
 {
@@ -80,7 +80,11 @@ fn connection_tokens(
 }
 
 /// A connection: its producer's place and the outport's name, its consumer's place and the inport's name.
-fn connection_token(alloc: Global, actors: &[ActorSpec], join: Join) -> Result<Token, OutOfMemory>
+fn connection_token(
+    alloc: Global,
+    actors: &[ActorSpec],
+    join: Connection,
+) -> Result<Token, OutOfMemory>
     ensures { IfOk result (λ token. token ≡ connection_token actors.now join) }
 {
     let mut parts = Items::new(alloc);
@@ -92,7 +96,11 @@ fn connection_token(alloc: Global, actors: &[ActorSpec], join: Join) -> Result<T
 }
 
 /// The name of the outport from which a connection comes.
-fn outport_token(alloc: Global, actors: &[ActorSpec], join: Join) -> Result<Token, OutOfMemory>
+fn outport_token(
+    alloc: Global,
+    actors: &[ActorSpec],
+    join: Connection,
+) -> Result<Token, OutOfMemory>
     ensures { IfOk result (λ token. token ≡ outport_token actors.now join) }
 {
     match actors.get(join.from as usize) {
@@ -102,7 +110,7 @@ fn outport_token(alloc: Global, actors: &[ActorSpec], join: Join) -> Result<Toke
 }
 
 /// The name of the inport to which a connection goes.
-fn inport_token(alloc: Global, actors: &[ActorSpec], join: Join) -> Result<Token, OutOfMemory>
+fn inport_token(alloc: Global, actors: &[ActorSpec], join: Connection) -> Result<Token, OutOfMemory>
     ensures { IfOk result (λ token. token ≡ inport_token actors.now join) }
 {
     match actors.get(join.to as usize) {

@@ -1,7 +1,7 @@
 //! Texts that are read as networks, and those that are refused.
 
 use cv_flow::FlowKind;
-use cv_kinds::{Join, Kind, Network};
+use cv_kinds::{Connection, Kind, Network};
 use cv_network::{NetFault, network_read, network_text};
 use cv_token::Token;
 use std::alloc::Global;
@@ -42,7 +42,7 @@ fn a_text_is_read_as_its_network(rt: HostRuntime) -> Result<(), Fail> {
     assert_eq!(rt; print.path.as_str(), "snk");
     assert!(rt; print.kind == Kind::Flow(FlowKind::Print));
     assert_eq!(rt; print.args.len(), 0);
-    let joined = Join {
+    let joined = Connection {
         from: 0,
         out: 0,
         to: 1,

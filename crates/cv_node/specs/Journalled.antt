@@ -46,7 +46,7 @@ abbrev pub entry_of_row : NodeState → Event → Entry
 entry_of_row s e = record { stamp = stamp_of s e; event = e }
 
 -- one step: a row of the state, which sends these frames, and its entry at the journal's end, which uses one of the room made ahead
-pub record Steps (old : Journalled) (e : Event) (sent : Sent) (new : Journalled) : Type 0 where
+pub record MakesStep (old : Journalled) (e : Event) (sent : Sent) (new : Journalled) : Type 0 where
   pub does : LeadsTo (row old.state e) new.state sent
   pub appends : new.entries ≡ old.entries ++ entry_of_row old.state e ∷ []
   pub based : new.base ≡ old.base

@@ -14,7 +14,7 @@ use Rattle.cv_actor.specs.declared.act.Polled.{Polled}
 use Rattle.cv_actor.specs.declared.act.Polled.TheVariants as polled
 use Rattle.cv_actor.specs.declared.outlook.Outlook.TheVariants as outlook
 use Rattle.cv_actor.specs.Polled.{foreseen}
-use Rattle.cv_node.specs.Journalled.{Journalled, Steps}
+use Rattle.cv_node.specs.Journalled.{Journalled, MakesStep}
 
 -- the actor lives here and waits for these lacks
 pub record Waits (s : NodeState) (a : ActorId) (lacks : List (Option Need)) : Type 0 where
@@ -24,8 +24,8 @@ pub record Waits (s : NodeState) (a : ActorId) (lacks : List (Option Need)) : Ty
 
 -- the action fired, or the inport was read, as a step; or nothing changed, since each action lacks something
 abbrev pub HasPolled : Journalled → ActorId → Polled → Journalled → Type 0
-HasPolled old a (polled.Fired action) new = Steps old (event.Fire a action) sent.Nothing new
-HasPolled old a (polled.Held port) new = Steps old (event.Peek a port) sent.Nothing new
+HasPolled old a (polled.Fired action) new = MakesStep old (event.Fire a action) sent.Nothing new
+HasPolled old a (polled.Held port) new = MakesStep old (event.Peek a port) sent.Nothing new
 HasPolled old a (polled.Waiting lacks) new = (new ≡ old) × Waits old.state a lacks
 
 -- why what the poll would do is refused; that it waits is no refusal

@@ -13,7 +13,7 @@ ghost use Rattle.cv_state.specs.Opening.{opened};
 ghost use Rattle.cv_state.specs.Steps.{LeadsTo, Refuses};
 ghost use Rattle.cv_state.specs.Waking.{IsNextDue};
 ghost use Rattle.cv_node.specs.Counts.{journal_length};
-ghost use Rattle.cv_node.specs.Journalled.{IsReplay, Steps};
+ghost use Rattle.cv_node.specs.Journalled.{IsReplay, MakesStep};
 ghost use Rattle.cv_node.specs.Polls.{HasPolled, poll_cause};
 ghost use Rattle.cv_node.specs.Seeing.{seen_actor};
 
@@ -116,14 +116,14 @@ impl Node {
     /// Does one row and appends its entry; tells the frames that it sends. A refused event changes nothing, and is answered with its
     /// cause; want of memory is told only where it has none, and of a Tick only where no room was made ahead.
     pub fn step(&mut self, alloc: Global, event: Event) -> Result<Sent, StepRefusal>
-        ensures done { IfOk result (λ sent. Steps self.old event sent self.new) }
+        ensures done { IfOk result (λ sent. MakesStep self.old event sent self.new) }
         ensures cause { IfErr result (Refuses (cause_of self.old.state event)) }
         ensures told { IfErr result (λ e. e ≡ unwrap_or (cause_of self.old.state event) refusal.OutOfMemory) }
         ensures ready { (moment : ℕ) → event ≡ Event.Tick moment → 0 < self.old.spare → IfErr result (λ e. cause_of self.old.state event ≡ Some e) }
         ensures err { OnErr result (self.new ≡ self.old) }
     {
         if make_room(&mut self.journal.entries, 1).is_err() {
-            return Err(self.wanting(&event));
+            return Err(self.cause_or_memory(&event));
         }
         match apply(&mut self.state, alloc, &event) {
             Ok(sent) => {
@@ -131,7 +131,7 @@ impl Node {
                 self.spare = self.spare.saturating_sub(1);
                 Ok(sent)
             }
-            Err(StepRefusal::OutOfMemory) => Err(self.wanting(&event)),
+            Err(StepRefusal::OutOfMemory) => Err(self.cause_or_memory(&event)),
             Err(cause) => Err(cause),
         }
     }
@@ -155,7 +155,7 @@ impl Node {
     }
 
     /// How an event is refused for which memory was wanting: with its cause, where it has one.
-    fn wanting(&self, event: &Event) -> StepRefusal
+    fn cause_or_memory(&self, event: &Event) -> StepRefusal
         ensures told { result ≡ unwrap_or (cause_of self.now.state event.now) refusal.OutOfMemory }
         ensures cause { Refuses (cause_of self.now.state event.now) result }
     {

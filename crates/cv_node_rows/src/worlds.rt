@@ -5,7 +5,7 @@ use crate::letters::{Letter, Says};
 use crate::matching::{are_alike, is_same};
 use crate::reading::{LIMIT, Reading};
 use cv_flow::FlowKind;
-use cv_kinds::{ActorSpec, Join, Kind, Network};
+use cv_kinds::{ActorSpec, Connection, Kind, Network};
 use cv_node::Node;
 use cv_protocol::{Event, Frame, Frames, Sent, StepRefusal};
 use cv_rules::{Attrs, NodeSpec};
@@ -150,7 +150,7 @@ fn network(alloc: Global, dice: &mut Dice) -> Result<Network, OutOfMemory> {
             None => false,
         };
         if place >= 2 && writes && dice.roll(8) > 0 {
-            joins.push(Join {
+            joins.push(Connection {
                 from,
                 out: 0,
                 to: place,

@@ -11,7 +11,7 @@ use Rattle.cv_queue.specs.declared.reader.Reader.{Reader}
 use Rattle.cv_queue.specs.Ports.{OutView, received, token_for, after_rewind, after_sent, after_peek}
 use Rattle.cv_endpoint.specs.Ends.{next_number, to_move, out_after_move, in_after_move}
 use Rattle.cv_kinds.specs.declared.network.ActorSpec.{ActorSpec}
-use Rattle.cv_kinds.specs.declared.network.Join.{Join}
+use Rattle.cv_kinds.specs.declared.network.Connection.{Connection}
 use Rattle.cv_kinds.specs.Net.{Net}
 use Rattle.cv_rules.specs.declared.attrs.Attrs.{Attrs}
 use Rattle.cv_protocol.specs.declared.frame.Body.{Body}
@@ -102,7 +102,7 @@ abbrev pub next_app : NodeState → AppId
 next_app s = record { node = s.spec.no; seq = s.known.deployed + 1 }
 
 -- the actors of a network from number `actor` on live here
-abbrev pub all_live : AppId → List Join → ℕ → ℕ → List ActorSpec → map.FinMap actor_cmp LiveState → map.FinMap actor_cmp LiveState
+abbrev pub all_live : AppId → List Connection → ℕ → ℕ → List ActorSpec → map.FinMap actor_cmp LiveState → map.FinMap actor_cmp LiveState
 all_live app joins now actor [] live = live
 all_live app joins now actor (spec ∷ specs) live =
     all_live app joins now (suc actor) specs (map.insert live (record { app = app; actor = actor }) (new_live app joins actor spec now))
@@ -114,7 +114,7 @@ all_hinted app node actor (spec ∷ specs) hints =
     all_hinted app node (suc actor) specs (map.insert hints (record { app = app; actor = actor }) (record { attempt = 0; node = node }))
 
 -- the producers of the connections from number `place` on
-abbrev pub all_joined : AppId → ℕ → List Join → map.FinMap conn_cmp ActorId → map.FinMap conn_cmp ActorId
+abbrev pub all_joined : AppId → ℕ → List Connection → map.FinMap conn_cmp ActorId → map.FinMap conn_cmp ActorId
 all_joined app place [] producers = producers
 all_joined app place (j ∷ joins) producers =
     all_joined app (suc place) joins (map.insert producers (record { app = app; place = place }) (record { app = app; actor = j.from }))

@@ -2,7 +2,7 @@
 use Rattle.std.specs.Prelude.{ℕ, zero, suc, ◌+◌, ◌-◌, Bool, true, false, ◌==◌, ◌&&◌, if◌then◌else◌, List, [], ◌∷◌, map, Option, Some, None}
 use Rattle.cv_token.specs.declared.identifiers.AppId.{AppId}
 use Rattle.cv_kinds.specs.declared.network.ActorSpec.{ActorSpec}
-use Rattle.cv_kinds.specs.declared.network.Join.{Join}
+use Rattle.cv_kinds.specs.declared.network.Connection.{Connection}
 use Rattle.cv_queue.specs.declared.reader.Reader.{Reader}
 use Rattle.cv_queue.specs.declared.reader.Subscription.{Subscription}
 use Rattle.cv_queue.specs.Ports.{OutView, new_out, new_in, after_cancel}
@@ -18,7 +18,7 @@ queue_length = 4
 -- 1. The start
 
 -- the connection that feeds an inport, for the connections from number `place` on
-abbrev pub inlet_of : AppId → ℕ → List Join → ℕ → ℕ → Option Inlet
+abbrev pub inlet_of : AppId → ℕ → List Connection → ℕ → ℕ → Option Inlet
 inlet_of app place [] actor port = None
 inlet_of app place (j ∷ joins) actor port =
     if (j.to == actor) && (j.inp == port)
@@ -35,7 +35,7 @@ added_if true x xs = x ∷ xs
 added_if false x xs = xs
 
 -- the readers of an outport, by rising connection
-abbrev pub readers_of : AppId → ℕ → List Join → ℕ → ℕ → List Subscription
+abbrev pub readers_of : AppId → ℕ → List Connection → ℕ → ℕ → List Subscription
 readers_of app place [] actor port = []
 readers_of app place (j ∷ joins) actor port =
     added_if ((j.from == actor) && (j.out == port)) (record {
@@ -45,18 +45,18 @@ readers_of app place (j ∷ joins) actor port =
     }) (readers_of app (suc place) joins actor port)
 
 -- so many inports from number `port` on, and so many outports
-abbrev pub inlets_of : AppId → List Join → ℕ → ℕ → ℕ → List (Option Inlet)
+abbrev pub inlets_of : AppId → List Connection → ℕ → ℕ → ℕ → List (Option Inlet)
 inlets_of app joins actor port zero = []
 inlets_of app joins actor port (suc count) =
     inlet_of app 0 joins actor port ∷ inlets_of app joins actor (suc port) count
 
-abbrev pub outs_of : AppId → List Join → ℕ → ℕ → ℕ → List OutView
+abbrev pub outs_of : AppId → List Connection → ℕ → ℕ → ℕ → List OutView
 outs_of app joins actor port zero = []
 outs_of app joins actor port (suc count) =
     new_out queue_length (readers_of app 0 joins actor port) ∷ outs_of app joins actor (suc port) count
 
 -- an actor of a network at the start: the slots of its row, and empty ports
-abbrev pub new_actor : AppId → List Join → ℕ → ActorSpec → Actor
+abbrev pub new_actor : AppId → List Connection → ℕ → ActorSpec → Actor
 new_actor app joins actor spec = record {
   id = record { app = app; actor = actor };
   spec = spec;
@@ -68,7 +68,7 @@ new_actor app joins actor spec = record {
 abbrev pub first_due : ActorSpec → ℕ → ℕ
 first_due spec now = now + (row_of spec.kind).pause spec.args
 
-abbrev pub new_live : AppId → List Join → ℕ → ActorSpec → ℕ → LiveState
+abbrev pub new_live : AppId → List Connection → ℕ → ActorSpec → ℕ → LiveState
 new_live app joins actor spec now =
     record { actor = new_actor app joins actor spec; due = first_due spec now; attempt = 0 }
 

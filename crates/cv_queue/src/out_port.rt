@@ -74,7 +74,7 @@ fn reader_at(readers: &[Reader], k: u16) -> Reader
 }
 
 /// Readers that have acknowledged nothing yet.
-fn anew(alloc: Global, readers: &Readers) -> Result<Vec<Reader>, OutOfMemory>
+fn new_readers(alloc: Global, readers: &Readers) -> Result<Vec<Reader>, OutOfMemory>
     ensures value { IfOk result (λ list. list.items ≡ map (reader_from 0) readers.now) }
     ensures few { length readers.now ≤ 65535 }
 {
@@ -113,7 +113,7 @@ impl OutPort {
             held: Vec::with_capacity(alloc, usize::from(cap))?,
             write: 0,
             cap,
-            readers: anew(alloc, &readers)?,
+            readers: new_readers(alloc, &readers)?,
         })
     }
 

@@ -6,16 +6,16 @@ use borrow.Author.Tests.{ltb-true}
 use Rattle.cv_lex.specs.declared.word.Word.{Word}
 use Rattle.cv_lex.specs.declared.word.Placed.{Placed}
 use Rattle.cv_readers.specs.Reading.{first_is}
-use Rattle.cv_readers.specs.Slots.{Slot, Fits, Matches, IsWithin, raise}
-use Rattle.cv_readers.proofs.Matching.{Leads}
+use Rattle.cv_readers.specs.Slots.{Slot, IsExpected, Matches, IsWithin, raise}
+use Rattle.cv_readers.proofs.Matching.{BeginsWith}
 
 -- the words begin what a tree expects: those in front within n levels, and w over them
 abbrev pub Above : ℕ → List Slot → List Placed → Placed → Type 0
 Above n [] front w = ⊥
-Above n (s ∷ ss) [] w = Fits s w × (n < s.level)
-Above n (s ∷ ss) (v ∷ front) w = Fits s v × (s.level ≤ n) × Above n ss front w
+Above n (s ∷ ss) [] w = IsExpected s w × (n < s.level)
+Above n (s ∷ ss) (v ∷ front) w = IsExpected s v × (s.level ≤ n) × Above n ss front w
 
-pub above_by : (n : ℕ) (ss : List Slot) (s : Slot) (more : List Slot) (front : List Placed) (w : Placed) → Matches ss front → IsWithin n ss → Fits s w → n < s.level → Above n (ss ++ s ∷ more) front w
+pub above_by : (n : ℕ) (ss : List Slot) (s : Slot) (more : List Slot) (front : List Placed) (w : Placed) → Matches ss front → IsWithin n ss → IsExpected s w → n < s.level → Above n (ss ++ s ∷ more) front w
 above_by n [] s more [] w m l h a = (h, a)
 above_by n [] s more (v ∷ front) w m l h a = absurd m
 above_by n (t ∷ ss) s more [] w m l h a = absurd m
@@ -26,7 +26,7 @@ not_above n [] front w l a = a
 not_above n (s ∷ ss) [] w l a = omega (arith, l.0, a.1)
 not_above n (s ∷ ss) (v ∷ front) w l a = not_above n ss front w l.1 a.2
 
-pub above_first : (p : Word → Bool) (b : Bool) (n : ℕ) (ss : List Slot) (front : List Placed) (w : Placed) (rest : List Placed) → Leads p b ss → Above n ss front w → first_is p (front ++ w ∷ rest) ≡ b
+pub above_first : (p : Word → Bool) (b : Bool) (n : ℕ) (ss : List Slot) (front : List Placed) (w : Placed) (rest : List Placed) → BeginsWith p b ss → Above n ss front w → first_is p (front ++ w ∷ rest) ≡ b
 above_first p b n [] front w rest l a = absurd a
 above_first p b n (s ∷ ss) [] w rest l a = ap p (sym a.0.0) ∙ l
 above_first p b n (s ∷ ss) (v ∷ front) w rest l a = ap p (sym a.0.0) ∙ l
@@ -76,7 +76,7 @@ pub record Behind (n : ℕ) (ss ts : List Slot) (front : List Placed) (w : Place
 abbrev pub InPart : ℕ → List Slot → List Slot → List Placed → Placed → Type 0
 InPart n ss ts front w = Above n ss front w ⊎ Behind n ss ts front w
 
-in_longer : (n : ℕ) (s : Slot) (ss ts : List Slot) (v : Placed) (front : List Placed) (w : Placed) → Fits s v → s.level ≤ n → InPart n ss ts front w → InPart n (s ∷ ss) ts (v ∷ front) w
+in_longer : (n : ℕ) (s : Slot) (ss ts : List Slot) (v : Placed) (front : List Placed) (w : Placed) → IsExpected s v → s.level ≤ n → InPart n ss ts front w → InPart n (s ∷ ss) ts (v ∷ front) w
 in_longer n s ss ts v front w f l (inl a) = inl (f, l, a)
 in_longer n s ss ts v front w f l (inr b) = inr (record { us = v ∷ b.us; vs = b.vs; whole = ap (λ z. v ∷ z) b.whole; first = (f, b.first); low = (l, b.low); above = b.above })
 
@@ -97,11 +97,11 @@ pub record Climbs (n : ℕ) (ss : List Slot) (ws : List Placed) : Type 0 where
 abbrev pub WithinOrClimbs : ℕ → List Slot → List Placed → Type 0
 WithinOrClimbs n ss ws = IsWithin n ss ⊎ Climbs n ss ws
 
-climbs_later : (n : ℕ) (s : Slot) (ss : List Slot) (v : Placed) (ws : List Placed) → Fits s v → s.level ≤ n → WithinOrClimbs n ss ws → WithinOrClimbs n (s ∷ ss) (v ∷ ws)
+climbs_later : (n : ℕ) (s : Slot) (ss : List Slot) (v : Placed) (ws : List Placed) → IsExpected s v → s.level ≤ n → WithinOrClimbs n ss ws → WithinOrClimbs n (s ∷ ss) (v ∷ ws)
 climbs_later n s ss v ws f l (inl low) = inl (l, low)
 climbs_later n s ss v ws f l (inr c) = inr (record { front = v ∷ c.front; w = c.w; rest = c.rest; whole = ap (λ z. v ∷ z) c.whole; above = (f, l, c.above) })
 
-climbs_here : (n : ℕ) (s : Slot) (ss : List Slot) (v : Placed) (ws : List Placed) (b : Bool) → ltb n s.level ≡ b → Fits s v → WithinOrClimbs n ss ws → WithinOrClimbs n (s ∷ ss) (v ∷ ws)
+climbs_here : (n : ℕ) (s : Slot) (ss : List Slot) (v : Placed) (ws : List Placed) (b : Bool) → ltb n s.level ≡ b → IsExpected s v → WithinOrClimbs n ss ws → WithinOrClimbs n (s ∷ ss) (v ∷ ws)
 climbs_here n s ss v ws true e f more = inr (record { front = []; w = v; rest = ws; whole = refl; above = (f, ltb-true n s.level e) })
 climbs_here n s ss v ws false e f more = climbs_later n s ss v ws f (ltb-false n s.level e) more
 

@@ -3,8 +3,8 @@ use Rattle.std.proofs.Common.{◌≡◌, ℕ, suc, ◌⊎◌, inl, inr, Bool, tr
 use Rattle.cv_lex.specs.declared.word.Word.{Word}
 use Rattle.cv_lex.specs.declared.word.Placed.{Placed}
 use Rattle.cv_readers.specs.Reading.{Miss, Reader, first_is, too_deep}
-use Rattle.cv_readers.specs.Slots.{Slot, Fits, Matches, IsWithin}
-use Rattle.cv_readers.proofs.Matching.{Leads, leads_first, same_first}
+use Rattle.cv_readers.specs.Slots.{Slot, IsExpected, Matches, IsWithin}
+use Rattle.cv_readers.proofs.Matching.{BeginsWith, leads_first, same_first}
 use Rattle.cv_readers.proofs.Above.{Above, above_first, above_whole}
 use Rattle.cv_readers.proofs.Promises.{never, missed, none_reached, no_longer, Taken, Stuck, Reads}
 use Rattle.cv_readers.proofs.Changes.{recast_stuck}
@@ -31,13 +31,13 @@ local : {X : Type 0} (n : ℕ) (A B : Reader X) (spell : X → List Slot) (Whole
 local n A B spell WholeA WholeB cont a b k front w rest more true r = a.local k front w rest more r
 local n A B spell WholeA WholeB cont a b k front w rest more false r = b.local k front w rest more r
 
-again : {X : Type 0} (n : ℕ) (p : Word → Bool) (A B : Reader X) (spell : X → List Slot) (WholeA WholeB : X → Type 0) (cont : X → Word → Bool) → Reads n A spell WholeA never cont → Reads n B spell WholeB never cont → ((x : X) → WholeA x → Leads p true (spell x)) → ((x : X) (front rest : List Placed) → WholeB x → Matches (spell x) front → first_is (cont x) rest ≡ false → first_is p (front ++ rest) ≡ false) → (x : X) (front rest : List Placed) → Either WholeA WholeB x → IsWithin n (spell x) → Matches (spell x) front → first_is (cont x) rest ≡ false → pick p A B (front ++ rest) ≡ Ok (x, rest)
+again : {X : Type 0} (n : ℕ) (p : Word → Bool) (A B : Reader X) (spell : X → List Slot) (WholeA WholeB : X → Type 0) (cont : X → Word → Bool) → Reads n A spell WholeA never cont → Reads n B spell WholeB never cont → ((x : X) → WholeA x → BeginsWith p true (spell x)) → ((x : X) (front rest : List Placed) → WholeB x → Matches (spell x) front → first_is (cont x) rest ≡ false → first_is p (front ++ rest) ≡ false) → (x : X) (front rest : List Placed) → Either WholeA WholeB x → IsWithin n (spell x) → Matches (spell x) front → first_is (cont x) rest ≡ false → pick p A B (front ++ rest) ≡ Ok (x, rest)
 again n p A B spell WholeA WholeB cont a b begins avoids x front rest (inl f) low m s =
     ap (λ c. cond c (A (front ++ rest)) (B (front ++ rest))) (leads_first p true (spell x) front rest (begins x f) m) ∙ a.again x front rest f low m s
 again n p A B spell WholeA WholeB cont a b begins avoids x front rest (inr f) low m s =
     ap (λ c. cond c (A (front ++ rest)) (B (front ++ rest))) (avoids x front rest f m s) ∙ b.again x front rest f low m s
 
-deep : {X : Type 0} (n : ℕ) (p : Word → Bool) (A B : Reader X) (spell : X → List Slot) (WholeA WholeB : X → Type 0) (cont : X → Word → Bool) → Reads n A spell WholeA never cont → Reads n B spell WholeB never cont → ((x : X) → WholeA x → Leads p true (spell x)) → ((x : X) (front rest : List Placed) → WholeB x → Matches (spell x) front → first_is (cont x) rest ≡ false → first_is p (front ++ rest) ≡ false) → (x : X) (front : List Placed) (w : Placed) (rest : List Placed) → Either WholeA WholeB x → Above n (spell x) front w → pick p A B (front ++ w ∷ rest) ≡ Err (missed true (suc (length rest)))
+deep : {X : Type 0} (n : ℕ) (p : Word → Bool) (A B : Reader X) (spell : X → List Slot) (WholeA WholeB : X → Type 0) (cont : X → Word → Bool) → Reads n A spell WholeA never cont → Reads n B spell WholeB never cont → ((x : X) → WholeA x → BeginsWith p true (spell x)) → ((x : X) (front rest : List Placed) → WholeB x → Matches (spell x) front → first_is (cont x) rest ≡ false → first_is p (front ++ rest) ≡ false) → (x : X) (front : List Placed) (w : Placed) (rest : List Placed) → Either WholeA WholeB x → Above n (spell x) front w → pick p A B (front ++ w ∷ rest) ≡ Err (missed true (suc (length rest)))
 deep n p A B spell WholeA WholeB cont a b begins avoids x front w rest (inl f) u =
     ap (λ c. cond c (A (front ++ w ∷ rest)) (B (front ++ w ∷ rest))) (above_first p true n (spell x) front w rest (begins x f) u) ∙ a.deep x front w rest f u
 deep n p A B spell WholeA WholeB cont a b begins avoids x front w rest (inr f) u =
@@ -46,7 +46,7 @@ deep n p A B spell WholeA WholeB cont a b begins avoids x front w rest (inr f) u
     ap (λ c. cond c (A (front ++ w ∷ rest)) (B (front ++ w ∷ rest))) other ∙ b.deep x front w rest f u
 
 -- the second reader may read no word at all
-pub choice_reads : {X : Type 0} (n : ℕ) (p : Word → Bool) (A B : Reader X) (spell : X → List Slot) (WholeA WholeB : X → Type 0) (cont : X → Word → Bool) → Reads n A spell WholeA never cont → Reads n B spell WholeB never cont → ((x : X) → WholeA x → Leads p true (spell x)) → ((x : X) (front rest : List Placed) → WholeB x → Matches (spell x) front → first_is (cont x) rest ≡ false → first_is p (front ++ rest) ≡ false) → Reads n (pick p A B) spell (Either WholeA WholeB) never cont
+pub choice_reads : {X : Type 0} (n : ℕ) (p : Word → Bool) (A B : Reader X) (spell : X → List Slot) (WholeA WholeB : X → Type 0) (cont : X → Word → Bool) → Reads n A spell WholeA never cont → Reads n B spell WholeB never cont → ((x : X) → WholeA x → BeginsWith p true (spell x)) → ((x : X) (front rest : List Placed) → WholeB x → Matches (spell x) front → first_is (cont x) rest ≡ false → first_is p (front ++ rest) ≡ false) → Reads n (pick p A B) spell (Either WholeA WholeB) never cont
 choice_reads n p A B spell WholeA WholeB cont a b begins avoids = record {
   takes = λ ws x rest s r. taken n p A B spell WholeA WholeB cont a b ws x rest (first_is p ws) s r;
   again = again n p A B spell WholeA WholeB cont a b begins avoids;
@@ -57,7 +57,7 @@ choice_reads n p A B spell WholeA WholeB cont a b begins avoids = record {
   deep = deep n p A B spell WholeA WholeB cont a b begins avoids;
 }
 
-pub pick_reads : {X : Type 0} (n : ℕ) (p : Word → Bool) (A B : Reader X) (spell : X → List Slot) (WholeA WholeB : X → Type 0) (cont : X → Word → Bool) → Reads n A spell WholeA never cont → Reads n B spell WholeB never cont → ((x : X) → WholeA x → Leads p true (spell x)) → ((x : X) → WholeB x → Leads p false (spell x)) → Reads n (pick p A B) spell (Either WholeA WholeB) never cont
+pub pick_reads : {X : Type 0} (n : ℕ) (p : Word → Bool) (A B : Reader X) (spell : X → List Slot) (WholeA WholeB : X → Type 0) (cont : X → Word → Bool) → Reads n A spell WholeA never cont → Reads n B spell WholeB never cont → ((x : X) → WholeA x → BeginsWith p true (spell x)) → ((x : X) → WholeB x → BeginsWith p false (spell x)) → Reads n (pick p A B) spell (Either WholeA WholeB) never cont
 pick_reads n p A B spell WholeA WholeB cont a b begins avoids =
     choice_reads n p A B spell WholeA WholeB cont a b begins (λ x front rest f m s. leads_first p false (spell x) front rest (avoids x f) m)
 
@@ -69,7 +69,7 @@ pub record Begun {X : Type 0} (spell : X → List Slot) (Whole : X → Type 0) (
   pub s : Slot
   pub more : List Slot
   pub split : spell tree ≡ s ∷ more
-  pub here : Fits s w
+  pub here : IsExpected s w
   pub level : s.level ≡ 1
   pub fine : Whole tree
 
@@ -99,7 +99,7 @@ deep_taken B spell WholeA WholeB cont b ws x rest false s r =
     let t = b.takes ws x rest s r in
     record { front = t.front; whole = t.whole; fits = t.fits; low = t.low; fine = inr t.fine; stops = t.stops }
 
-deep_again : {X : Type 0} (p : Word → Bool) (B : Reader X) (spell : X → List Slot) (WholeA WholeB : X → Type 0) (cont : X → Word → Bool) → Reads 0 B spell WholeB never cont → ((x : X) → WholeA x → Opens (spell x)) → ((x : X) → WholeB x → Leads p false (spell x)) → (x : X) (front rest : List Placed) → Either WholeA WholeB x → IsWithin 0 (spell x) → Matches (spell x) front → first_is (cont x) rest ≡ false → pick p too_deep B (front ++ rest) ≡ Ok (x, rest)
+deep_again : {X : Type 0} (p : Word → Bool) (B : Reader X) (spell : X → List Slot) (WholeA WholeB : X → Type 0) (cont : X → Word → Bool) → Reads 0 B spell WholeB never cont → ((x : X) → WholeA x → Opens (spell x)) → ((x : X) → WholeB x → BeginsWith p false (spell x)) → (x : X) (front rest : List Placed) → Either WholeA WholeB x → IsWithin 0 (spell x) → Matches (spell x) front → first_is (cont x) rest ≡ false → pick p too_deep B (front ++ rest) ≡ Ok (x, rest)
 deep_again p B spell WholeA WholeB cont b begins avoids x front rest (inl f) low m s = absurd (not_low (spell x) (begins x f) low)
 deep_again p B spell WholeA WholeB cont b begins avoids x front rest (inr f) low m s =
     ap (λ c. cond c (too_deep (front ++ rest)) (B (front ++ rest))) (leads_first p false (spell x) front rest (avoids x f) m) ∙ b.again x front rest f low m s
@@ -125,13 +125,13 @@ here_deep [] front w rest o a = absurd o
 here_deep (s ∷ ss) [] w rest o a = refl
 here_deep (s ∷ ss) (v ∷ front) w rest o a = absurd (omega (arith, o, a.1))
 
-deep_deep : {X : Type 0} (p : Word → Bool) (B : Reader X) (spell : X → List Slot) (WholeA WholeB : X → Type 0) (cont : X → Word → Bool) → Reads 0 B spell WholeB never cont → ((x : X) → WholeA x → Opens (spell x)) → ((x : X) → WholeA x → Leads p true (spell x)) → ((x : X) → WholeB x → Leads p false (spell x)) → (x : X) (front : List Placed) (w : Placed) (rest : List Placed) → Either WholeA WholeB x → Above 0 (spell x) front w → pick p too_deep B (front ++ w ∷ rest) ≡ Err (missed true (suc (length rest)))
+deep_deep : {X : Type 0} (p : Word → Bool) (B : Reader X) (spell : X → List Slot) (WholeA WholeB : X → Type 0) (cont : X → Word → Bool) → Reads 0 B spell WholeB never cont → ((x : X) → WholeA x → Opens (spell x)) → ((x : X) → WholeA x → BeginsWith p true (spell x)) → ((x : X) → WholeB x → BeginsWith p false (spell x)) → (x : X) (front : List Placed) (w : Placed) (rest : List Placed) → Either WholeA WholeB x → Above 0 (spell x) front w → pick p too_deep B (front ++ w ∷ rest) ≡ Err (missed true (suc (length rest)))
 deep_deep p B spell WholeA WholeB cont b begins leads avoids x front w rest (inl f) a =
     ap (λ c. cond c (too_deep (front ++ w ∷ rest)) (B (front ++ w ∷ rest))) (above_first p true 0 (spell x) front w rest (leads x f) a) ∙ ap (λ m. Err m) (here_deep (spell x) front w rest (begins x f) a)
 deep_deep p B spell WholeA WholeB cont b begins leads avoids x front w rest (inr f) a =
     ap (λ c. cond c (too_deep (front ++ w ∷ rest)) (B (front ++ w ∷ rest))) (above_first p false 0 (spell x) front w rest (avoids x f) a) ∙ b.deep x front w rest f a
 
-pub deep_reads : {X : Type 0} (p : Word → Bool) (B : Reader X) (spell : X → List Slot) (WholeA WholeB : X → Type 0) (cont : X → Word → Bool) → Reads 0 B spell WholeB never cont → ((x : X) → WholeA x → Opens (spell x)) → ((x : X) → WholeA x → Leads p true (spell x)) → ((x : X) → WholeB x → Leads p false (spell x)) → ((w : Placed) → p w.word ≡ true → Begun spell WholeA w) → Reads 0 (pick p too_deep B) spell (Either WholeA WholeB) never cont
+pub deep_reads : {X : Type 0} (p : Word → Bool) (B : Reader X) (spell : X → List Slot) (WholeA WholeB : X → Type 0) (cont : X → Word → Bool) → Reads 0 B spell WholeB never cont → ((x : X) → WholeA x → Opens (spell x)) → ((x : X) → WholeA x → BeginsWith p true (spell x)) → ((x : X) → WholeB x → BeginsWith p false (spell x)) → ((w : Placed) → p w.word ≡ true → Begun spell WholeA w) → Reads 0 (pick p too_deep B) spell (Either WholeA WholeB) never cont
 deep_reads p B spell WholeA WholeB cont b begins leads avoids begin = record {
   takes = λ ws x rest s r. deep_taken B spell WholeA WholeB cont b ws x rest (first_is p ws) s r;
   again = deep_again p B spell WholeA WholeB cont b begins avoids;

@@ -10,7 +10,7 @@ use Rattle.cv_lex.specs.declared.word.Placed.{Placed}
 use Rattle.cv_readers.specs.Reading.{Read, Reader, ◌>>=◌, first_is, behind, is_mark, mark_at, open_at, when, found_word}
 use Rattle.cv_readers.specs.Combining.{mapped, with_front, closed, after, many, sep, listed}
 use Rattle.cv_readers.specs.Slots.{Slot, Matches, mark, opening, raise, all_slots, sep_slots, listed_slots, SomeAll}
-use Rattle.cv_readers.proofs.Matching.{Leads, leads_first}
+use Rattle.cv_readers.proofs.Matching.{BeginsWith, leads_first}
 use Rattle.cv_readers.proofs.Above.{Above}
 use Rattle.cv_readers.proofs.Promises.{never, never_first, missed, no_longer, stuck_first, not_both, Stuck, Reads, word_reads}
 use Rattle.cv_readers.proofs.Chains.{chain, then_reads, both_slots, BothWhole}
@@ -139,10 +139,10 @@ mark_first m (w ∷ ws) e = ap (λ b. found_word (when b tt) w ws) e
 abbrev none_of : {X : Type 0} → Unit {0} → List X
 none_of u = []
 
-listed_one : {X : Type 0} (close : Mark) (spell : X → List Slot) (xs : List X) → Image none_of (λ u. Unit {0}) xs → Leads (is_mark close) true (listed_slots close spell xs)
-listed_one close spell xs i = subst (λ ys. Leads (is_mark close) true (listed_slots close spell ys)) i.same (mark_self close)
+listed_one : {X : Type 0} (close : Mark) (spell : X → List Slot) (xs : List X) → Image none_of (λ u. Unit {0}) xs → BeginsWith (is_mark close) true (listed_slots close spell xs)
+listed_one close spell xs i = subst (λ ys. BeginsWith (is_mark close) true (listed_slots close spell ys)) i.same (mark_self close)
 
-listed_two : {X : Type 0} (close : Mark) (spell : X → List Slot) (Whole : X → Type 0) → ((x : X) → Whole x → Leads (is_mark close) false (spell x)) → (xs : List X) → SomeAll Whole xs → Leads (is_mark close) false (listed_slots close spell xs)
+listed_two : {X : Type 0} (close : Mark) (spell : X → List Slot) (Whole : X → Type 0) → ((x : X) → Whole x → BeginsWith (is_mark close) false (spell x)) → (xs : List X) → SomeAll Whole xs → BeginsWith (is_mark close) false (listed_slots close spell xs)
 listed_two close spell Whole avoids [] f = absurd f
 listed_two close spell Whole avoids (x ∷ xs) f =
     leads_append (is_mark close) false (sep_slots marks.Comma spell (x ∷ xs)) (mark close ∷ []) (leads_append (is_mark close) false (spell x) (all_slots (λ y. mark marks.Comma ∷ spell y) xs) (avoids x f.0))
@@ -156,7 +156,7 @@ listed_from : {X : Type 0} (Whole : X → Type 0) (xs : List X) → AllByRecursi
 listed_from Whole [] f = inl (record { from = tt; fine = tt; same = refl })
 listed_from Whole (x ∷ xs) f = inr f
 
-pub listed_reads : {X : Type 0} (n : ℕ) (close : Mark) (R : Reader X) (spell : X → List Slot) (Whole : X → Type 0) → (eg : X) → Whole eg → is_mark marks.Comma (words.Mark close) ≡ false → ((x : X) → Whole x → Leads (is_mark close) false (spell x)) → Reads n R spell Whole never (λ _. never) → Reads n (listed close R) (listed_slots close spell) (AllByRecursion Whole) never (λ _. never)
+pub listed_reads : {X : Type 0} (n : ℕ) (close : Mark) (R : Reader X) (spell : X → List Slot) (Whole : X → Type 0) → (eg : X) → Whole eg → is_mark marks.Comma (words.Mark close) ≡ false → ((x : X) → Whole x → BeginsWith (is_mark close) false (spell x)) → Reads n R spell Whole never (λ _. never) → Reads n (listed close R) (listed_slots close spell) (AllByRecursion Whole) never (λ _. never)
 unfolding listed
 listed_reads {X} n close R spell Whole eg fine comma avoids reads =
     let A : Reader (List X) = λ ws. Ok ([], behind ws) in

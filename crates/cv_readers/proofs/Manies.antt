@@ -7,7 +7,7 @@ use Rattle.cv_lex.specs.declared.word.Placed.{Placed}
 use Rattle.cv_readers.specs.Reading.{Miss, Read, Reader, first_is}
 use Rattle.cv_readers.specs.Combining.{with_front, many}
 use Rattle.cv_readers.specs.Slots.{Slot, Matches, IsWithin, all_slots}
-use Rattle.cv_readers.proofs.Matching.{matches_append, matches_split, within_append, within_first, within_second, Leads, leads_first, same_first, same_ends}
+use Rattle.cv_readers.proofs.Matching.{matches_append, matches_split, within_append, within_first, within_second, BeginsWith, leads_first, same_first, same_ends}
 use Rattle.cv_readers.proofs.Above.{Above, InPart, above_first, above_split}
 use Rattle.cv_readers.proofs.Promises.{never, never_first, missed, read_same, rest_same, not_both, miss_same, Taken, Reaches, Deeper, Stuck, Reads}
 use Rattle.cv_readers.proofs.Repeats.{many_over, many_more, many_stops}
@@ -22,8 +22,8 @@ either p c w = p w || c w
 -- what the items of a row promise: each begins with a word of p that does not go on with another item, and a word outside p goes on with an item where c says so
 pub record Row {X : Type 0} (n : ℕ) (p : Word → Bool) (c : Word → Bool) (R : Reader X) (spell : X → List Slot) (Whole : X → Type 0) (cont : X → Word → Bool) : Type 0 where
   pub item : Reads n R spell Whole never cont
-  pub starts : (x : X) → Whole x → Leads p true (spell x)
-  pub follows : (x y : X) → Whole x → Whole y → Leads (cont x) false (spell y)
+  pub starts : (x : X) → Whole x → BeginsWith p true (spell x)
+  pub follows : (x y : X) → Whole x → Whole y → BeginsWith (cont x) false (spell y)
   pub same : (x : X) (w : Word) → Whole x → p w ≡ false → cont x w ≡ c w
 
 -- ---- first words
@@ -63,12 +63,12 @@ either_cont n p c R spell Whole cont row x f (w ∷ ws) e =
 
 -- ---- the words get fewer
 
-shorter : (p : Word → Bool) (b : Bool) (ss : List Slot) (front ws rest : List Placed) → Leads p b ss → Matches ss front → ws ≡ front ++ rest → length rest < length ws
+shorter : (p : Word → Bool) (b : Bool) (ss : List Slot) (front ws rest : List Placed) → BeginsWith p b ss → Matches ss front → ws ≡ front ++ rest → length rest < length ws
 shorter p b [] front ws rest l m e = absurd l
 shorter p b (s ∷ ss) [] ws rest l m e = absurd m
 shorter p b (s ∷ ss) (w ∷ front) ws rest l m e = rw e (omega (arith, length-append front rest))
 
-pub leads_append : (p : Word → Bool) (b : Bool) (ss ts : List Slot) → Leads p b ss → Leads p b (ss ++ ts)
+pub leads_append : (p : Word → Bool) (b : Bool) (ss ts : List Slot) → BeginsWith p b ss → BeginsWith p b (ss ++ ts)
 leads_append p b [] ts l = absurd l
 leads_append p b (s ∷ ss) ts l = l
 

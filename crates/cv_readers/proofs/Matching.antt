@@ -63,11 +63,11 @@ matches_lower (s ∷ ss) [] m = absurd m
 matches_lower (s ∷ ss) (w ∷ ws) m = (m.0, matches_lower ss ws m.1)
 
 -- the first word that a tree expects answers a test so
-abbrev pub Leads : (Word → Bool) → Bool → List Slot → Type 0
-Leads p b [] = ⊥
-Leads p b (s ∷ ss) = p s.word ≡ b
+abbrev pub BeginsWith : (Word → Bool) → Bool → List Slot → Type 0
+BeginsWith p b [] = ⊥
+BeginsWith p b (s ∷ ss) = p s.word ≡ b
 
-pub leads_first : (p : Word → Bool) (b : Bool) (ss : List Slot) (ws rest : List Placed) → Leads p b ss → Matches ss ws → first_is p (ws ++ rest) ≡ b
+pub leads_first : (p : Word → Bool) (b : Bool) (ss : List Slot) (ws rest : List Placed) → BeginsWith p b ss → Matches ss ws → first_is p (ws ++ rest) ≡ b
 leads_first p b [] ws rest l m = absurd l
 leads_first p b (s ∷ ss) [] rest l m = absurd m
 leads_first p b (s ∷ ss) (w ∷ ws) rest l m = ap p (sym m.0.0) ∙ l

@@ -4,8 +4,8 @@ use Rattle.cv_lex.specs.declared.word.Word.{Word}
 use Rattle.cv_lex.specs.declared.word.Placed.{Placed}
 use Rattle.cv_readers.specs.Reading.{Miss, Reader, first_is, place_of}
 use Rattle.cv_readers.specs.Combining.{mapped}
-use Rattle.cv_readers.specs.Slots.{Slot, Fits, Matches, IsWithin, place_first}
-use Rattle.cv_readers.proofs.Matching.{Leads, leads_first, same_first}
+use Rattle.cv_readers.specs.Slots.{Slot, IsExpected, Matches, IsWithin, place_first}
+use Rattle.cv_readers.proofs.Matching.{BeginsWith, leads_first, same_first}
 use Rattle.cv_readers.proofs.Above.{Above, above_first}
 use Rattle.cv_readers.proofs.Promises.{never, never_first, missed, read_same, rest_same, Taken, Reaches, Deeper, Stuck, Reads}
 use Rattle.cv_readers.proofs.Changes.{recast_stuck, mapped_ok, mapped_err}
@@ -38,7 +38,7 @@ none_front [] [] e m = refl
 none_front [] (w ∷ front) e m = absurd m
 none_front (s ∷ ss) front e m = cc
 
-maybe_again : {X : Type 0} (n : ℕ) (p : Word → Bool) (A : Reader X) (none : X) (spell : X → List Slot) (Whole : X → Type 0) (cont : X → Word → Bool) → spell none ≡ [] → cont none ≡ p → ((x : X) → Whole x → Leads p true (spell x)) → Reads n A spell Whole never cont → (x : X) (front rest : List Placed) → Either Whole (λ y. none ≡ y) x → IsWithin n (spell x) → Matches (spell x) front → first_is (cont x) rest ≡ false → maybe p A none (front ++ rest) ≡ Ok (x, rest)
+maybe_again : {X : Type 0} (n : ℕ) (p : Word → Bool) (A : Reader X) (none : X) (spell : X → List Slot) (Whole : X → Type 0) (cont : X → Word → Bool) → spell none ≡ [] → cont none ≡ p → ((x : X) → Whole x → BeginsWith p true (spell x)) → Reads n A spell Whole never cont → (x : X) (front rest : List Placed) → Either Whole (λ y. none ≡ y) x → IsWithin n (spell x) → Matches (spell x) front → first_is (cont x) rest ≡ false → maybe p A none (front ++ rest) ≡ Ok (x, rest)
 maybe_again n p A none spell Whole cont e c begins a x front rest (inl f) low m s =
     ap (λ b. cond b (A (front ++ rest)) (Ok (none, front ++ rest))) (leads_first p true (spell x) front rest (begins x f) m) ∙ a.again x front rest f low m s
 maybe_again n p A none spell Whole cont e c begins a x front rest (inr f) low m s =
@@ -54,12 +54,12 @@ maybe_local : {X : Type 0} (n : ℕ) (A : Reader X) (none : X) (spell : X → Li
 maybe_local n A none spell Whole cont a k front w rest more true r = a.local k front w rest more r
 maybe_local n A none spell Whole cont a k front w rest more false r = cc
 
-maybe_deep : {X : Type 0} (n : ℕ) (p : Word → Bool) (A : Reader X) (none : X) (spell : X → List Slot) (Whole : X → Type 0) (cont : X → Word → Bool) → spell none ≡ [] → ((x : X) → Whole x → Leads p true (spell x)) → Reads n A spell Whole never cont → (x : X) (front : List Placed) (w : Placed) (rest : List Placed) → Either Whole (λ y. none ≡ y) x → Above n (spell x) front w → maybe p A none (front ++ w ∷ rest) ≡ Err (missed true (suc (length rest)))
+maybe_deep : {X : Type 0} (n : ℕ) (p : Word → Bool) (A : Reader X) (none : X) (spell : X → List Slot) (Whole : X → Type 0) (cont : X → Word → Bool) → spell none ≡ [] → ((x : X) → Whole x → BeginsWith p true (spell x)) → Reads n A spell Whole never cont → (x : X) (front : List Placed) (w : Placed) (rest : List Placed) → Either Whole (λ y. none ≡ y) x → Above n (spell x) front w → maybe p A none (front ++ w ∷ rest) ≡ Err (missed true (suc (length rest)))
 maybe_deep n p A none spell Whole cont e begins a x front w rest (inl f) u =
     ap (λ b. cond b (A (front ++ w ∷ rest)) (Ok (none, front ++ w ∷ rest))) (above_first p true n (spell x) front w rest (begins x f) u) ∙ a.deep x front w rest f u
 maybe_deep n p A none spell Whole cont e begins a x front w rest (inr f) u = absurd (subst (λ ss. Above n ss front w) (ap spell (sym f) ∙ e) u)
 
-pub maybe_reads : {X : Type 0} (n : ℕ) (p : Word → Bool) (A : Reader X) (none : X) (spell : X → List Slot) (Whole : X → Type 0) (cont : X → Word → Bool) → spell none ≡ [] → cont none ≡ p → ((x : X) → Whole x → Leads p true (spell x)) → Reads n A spell Whole never cont → Reads n (maybe p A none) spell (Either Whole (λ y. none ≡ y)) never cont
+pub maybe_reads : {X : Type 0} (n : ℕ) (p : Word → Bool) (A : Reader X) (none : X) (spell : X → List Slot) (Whole : X → Type 0) (cont : X → Word → Bool) → spell none ≡ [] → cont none ≡ p → ((x : X) → Whole x → BeginsWith p true (spell x)) → Reads n A spell Whole never cont → Reads n (maybe p A none) spell (Either Whole (λ y. none ≡ y)) never cont
 maybe_reads n p A none spell Whole cont e c begins a = record {
   takes = λ ws x rest s r. maybe_taken n p A none spell Whole cont e c a ws x rest (first_is p ws) refl r;
   again = maybe_again n p A none spell Whole cont e c begins a;
@@ -120,7 +120,7 @@ here_reach n spell Whole bare (w ∷ front) tree [] more e m l f = absurd m
 here_reach n spell Whole bare [] tree (s ∷ ss) more e m l f = absurd m
 here_reach n spell Whole bare (w ∷ front) tree (s ∷ ss) more e m l f = record { tree = (w.at, tree); ss = place_first w.at (s ∷ ss); more = more; split = ap (place_first w.at) e; fits = ((m.0.0, refl), m.1); low = l; fine = f }
 
-here_deeper : {X : Type 0} (n : ℕ) (spell : X → List Slot) (Whole : X → Type 0) (front bad : List Placed) (w : Placed) (rest : List Placed) → bad ≡ w ∷ rest → (tree : X) (ss : List Slot) (s : Slot) (more : List Slot) → spell tree ≡ ss ++ s ∷ more → Matches ss front → Fits s w → IsWithin n ss → s.level ≡ suc n → Whole tree → Deeper (here_slots spell) (λ q. Whole q.1) n front bad
+here_deeper : {X : Type 0} (n : ℕ) (spell : X → List Slot) (Whole : X → Type 0) (front bad : List Placed) (w : Placed) (rest : List Placed) → bad ≡ w ∷ rest → (tree : X) (ss : List Slot) (s : Slot) (more : List Slot) → spell tree ≡ ss ++ s ∷ more → Matches ss front → IsExpected s w → IsWithin n ss → s.level ≡ suc n → Whole tree → Deeper (here_slots spell) (λ q. Whole q.1) n front bad
 here_deeper n spell Whole [] bad w rest b tree [] s more e m here l v f = record { w = w; rest = rest; whole = b; tree = (w.at, tree); ss = []; s = record { word = s.word; at = Some w.at; level = s.level }; more = more; split = ap (place_first w.at) e; fits = tt; here = (here.0, refl); low = tt; level = v; fine = f }
 here_deeper n spell Whole (x ∷ front) bad w rest b tree [] s more e m here l v f = absurd m
 here_deeper n spell Whole [] bad w rest b tree (t ∷ ss) s more e m here l v f = absurd m

@@ -4,7 +4,7 @@ use Rattle.std.proofs.lemmas.List.{length-append}
 use Rattle.cv_lex.specs.declared.word.Word.{Word}
 use Rattle.cv_lex.specs.declared.word.Placed.{Placed}
 use Rattle.cv_readers.specs.Reading.{Miss, Read, Reader, first_is, word_at, found_word}
-use Rattle.cv_readers.specs.Slots.{Slot, Fits, Matches, IsWithin}
+use Rattle.cv_readers.specs.Slots.{Slot, IsExpected, Matches, IsWithin}
 use Rattle.cv_readers.proofs.Above.{Above, not_above}
 
 -- no word
@@ -49,7 +49,7 @@ pub record Deeper {X : Type 0} (spell : X → List Slot) (Whole : X → Type 0) 
   pub more : List Slot
   pub split : spell tree ≡ ss ++ s ∷ more
   pub fits : Matches ss front
-  pub here : Fits s w
+  pub here : IsExpected s w
   pub low : IsWithin n ss
   pub level : s.level ≡ suc n
   pub fine : Whole tree
@@ -96,7 +96,7 @@ miss_same a m miss e f = cc
 none_low : (n : ℕ) (s : Slot) → s.level ≤ n → IsWithin n (s ∷ [])
 none_low n s e = (e, tt)
 
-taken_word : {X : Type 0} (what : Placed → Option X) (slot : X → Slot) (Whole : X → Type 0) (n : ℕ) (flat : (x : X) → (slot x).level ≤ n) (good : (w : Placed) (x : X) → what w ≡ Some x → Fits (slot x) w × Whole x) (w : Placed) (ws : List Placed) (x : X) (rest : List Placed) (o : Option X) → what w ≡ o → found_word o w ws ≡ Ok (x, rest) → Taken (λ y. slot y ∷ []) Whole (λ _. never) n (w ∷ ws) x rest
+taken_word : {X : Type 0} (what : Placed → Option X) (slot : X → Slot) (Whole : X → Type 0) (n : ℕ) (flat : (x : X) → (slot x).level ≤ n) (good : (w : Placed) (x : X) → what w ≡ Some x → IsExpected (slot x) w × Whole x) (w : Placed) (ws : List Placed) (x : X) (rest : List Placed) (o : Option X) → what w ≡ o → found_word o w ws ≡ Ok (x, rest) → Taken (λ y. slot y ∷ []) Whole (λ _. never) n (w ∷ ws) x rest
 taken_word what slot Whole n flat good w ws x rest (Some y) e r =
     let same = read_same y x ws rest r in
     let left = rest_same y x ws rest r in
@@ -111,7 +111,7 @@ taken_word what slot Whole n flat good w ws x rest (Some y) e r =
     }
 taken_word what slot Whole n flat good w ws x rest None e r = cc
 
-again_word : {X : Type 0} (what : Placed → Option X) (slot : X → Slot) (Whole : X → Type 0) (back : (w : Placed) (x : X) → Whole x → Fits (slot x) w → what w ≡ Some x) (x : X) (front rest : List Placed) → Whole x → Matches (slot x ∷ []) front → word_at what (front ++ rest) ≡ Ok (x, rest)
+again_word : {X : Type 0} (what : Placed → Option X) (slot : X → Slot) (Whole : X → Type 0) (back : (w : Placed) (x : X) → Whole x → IsExpected (slot x) w → what w ≡ Some x) (x : X) (front rest : List Placed) → Whole x → Matches (slot x ∷ []) front → word_at what (front ++ rest) ≡ Ok (x, rest)
 again_word what slot Whole back x [] rest f m = absurd m
 again_word what slot Whole back x (w ∷ []) rest f m = rw (back w x f m.0) refl
 again_word what slot Whole back x (w ∷ v ∷ front) rest f m = absurd m.1
@@ -150,7 +150,7 @@ local_there v w front rest more k None r =
     let same : missed false (length (v ∷ (front ++ w ∷ rest))) ≡ missed k (suc (length rest)) = cc in
     absurd (no_longer v w front rest (ap (λ m. m.left) same))
 
-word_takes : {X : Type 0} (n : ℕ) (what : Placed → Option X) (slot : X → Slot) (Whole : X → Type 0) → ((x : X) → (slot x).level ≤ n) → ((w : Placed) (x : X) → what w ≡ Some x → Fits (slot x) w × Whole x) → (ws : List Placed) (x : X) (rest : List Placed) → first_is never ws ≡ false → word_at what ws ≡ Ok (x, rest) → Taken (λ y. slot y ∷ []) Whole (λ _. never) n ws x rest
+word_takes : {X : Type 0} (n : ℕ) (what : Placed → Option X) (slot : X → Slot) (Whole : X → Type 0) → ((x : X) → (slot x).level ≤ n) → ((w : Placed) (x : X) → what w ≡ Some x → IsExpected (slot x) w × Whole x) → (ws : List Placed) (x : X) (rest : List Placed) → first_is never ws ≡ false → word_at what ws ≡ Ok (x, rest) → Taken (λ y. slot y ∷ []) Whole (λ _. never) n ws x rest
 word_takes n what slot Whole flat good [] x rest s r = cc
 word_takes n what slot Whole flat good (w ∷ ws) x rest s r = taken_word what slot Whole n flat good w ws x rest (what w) refl r
 
@@ -163,7 +163,7 @@ word_local what k [] w rest more r = local_here w rest more k (what w) r
 word_local what k (v ∷ front) w rest more r = local_there v w front rest more k (what v) r
 
 -- a reader of one word, where not every value is read
-pub some_word_reads : {X : Type 0} (n : ℕ) (what : Placed → Option X) (slot : X → Slot) (Whole : X → Type 0) → ((x : X) → (slot x).level ≤ n) → ((w : Placed) (x : X) → what w ≡ Some x → Fits (slot x) w × Whole x) → ((w : Placed) (x : X) → Whole x → Fits (slot x) w → what w ≡ Some x) → (eg : X) → Whole eg → Reads n (word_at what) (λ x. slot x ∷ []) Whole never (λ _. never)
+pub some_word_reads : {X : Type 0} (n : ℕ) (what : Placed → Option X) (slot : X → Slot) (Whole : X → Type 0) → ((x : X) → (slot x).level ≤ n) → ((w : Placed) (x : X) → what w ≡ Some x → IsExpected (slot x) w × Whole x) → ((w : Placed) (x : X) → Whole x → IsExpected (slot x) w → what w ≡ Some x) → (eg : X) → Whole eg → Reads n (word_at what) (λ x. slot x ∷ []) Whole never (λ _. never)
 some_word_reads n what slot Whole flat good back eg f = record {
   takes = word_takes n what slot Whole flat good;
   again = λ x front rest g low m s. again_word what slot Whole back x front rest g m;
@@ -172,5 +172,5 @@ some_word_reads n what slot Whole flat good back eg f = record {
   deep = λ x front w rest g a. absurd (not_above n (slot x ∷ []) front w (none_low n (slot x) (flat x)) a);
 }
 
-pub word_reads : {X : Type 0} (n : ℕ) (what : Placed → Option X) (slot : X → Slot) → ((x : X) → (slot x).level ≤ n) → ((w : Placed) (x : X) → what w ≡ Some x → Fits (slot x) w) → ((w : Placed) (x : X) → Fits (slot x) w → what w ≡ Some x) → X → Reads n (word_at what) (λ x. slot x ∷ []) (λ _. Unit {0}) never (λ _. never)
+pub word_reads : {X : Type 0} (n : ℕ) (what : Placed → Option X) (slot : X → Slot) → ((x : X) → (slot x).level ≤ n) → ((w : Placed) (x : X) → what w ≡ Some x → IsExpected (slot x) w) → ((w : Placed) (x : X) → IsExpected (slot x) w → what w ≡ Some x) → X → Reads n (word_at what) (λ x. slot x ∷ []) (λ _. Unit {0}) never (λ _. never)
 word_reads n what slot flat good back eg = some_word_reads n what slot (λ _. Unit {0}) flat (λ w x e. (good w x e, tt)) (λ w x f m. back w x m) eg tt

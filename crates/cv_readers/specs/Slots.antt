@@ -40,15 +40,15 @@ place_first at [] = []
 place_first at (s ∷ ss) = record { word = s.word; at = Some at; level = s.level } ∷ ss
 
 -- a word of a source is what the tree expects
-abbrev pub Fits : Slot → Placed → Type 0
-Fits s w = (s.word ≡ w.word) × IfSome s.at (λ at. at ≡ w.at)
+abbrev pub IsExpected : Slot → Placed → Type 0
+IsExpected s w = (s.word ≡ w.word) × IfSome s.at (λ at. at ≡ w.at)
 
 -- words of a source are what the tree expects, one by one
 abbrev pub Matches : List Slot → List Placed → Type 0
 Matches [] [] = Unit {0}
 Matches [] (w ∷ ws) = ⊥
 Matches (s ∷ ss) [] = ⊥
-Matches (s ∷ ss) (w ∷ ws) = Fits s w × Matches ss ws
+Matches (s ∷ ss) (w ∷ ws) = IsExpected s w × Matches ss ws
 
 -- at most n levels are open at each of these words
 abbrev pub IsWithin : ℕ → List Slot → Type 0

@@ -10,7 +10,7 @@ use Rattle.cv_protocol.specs.declared.event.Sent.{Sent}
 use Rattle.cv_protocol.specs.Journals.{got_frame}
 use Rattle.cv_state.specs.Steps.{frames_of}
 use Rattle.cv_node.specs.Counts.{firing_count, firing_count_of, is_firing, journal_length}
-use Rattle.cv_node.specs.Journalled.{Journalled, Steps}
+use Rattle.cv_node.specs.Journalled.{Journalled, MakesStep}
 use Rattle.cv_station.specs.declared.station.Station.{Station}
 use Rattle.cv_station.specs.Acts.{Does, NodeDoes, events_in}
 use Rattle.cv_station.specs.Going as station
@@ -111,7 +111,7 @@ fires_not (event.Destroy app) is = absurd (cc)
 fires_not (event.Lose f) is = absurd (cc)
 fires_not (event.Deliver f) is = absurd (cc)
 
-one_step : (a b : Journalled) (e : Event) (sent : Sent) → Steps a e sent b → NodeDoes a (e ∷ []) (frames_of sent) b
+one_step : (a b : Journalled) (e : Event) (sent : Sent) → MakesStep a e sent b → NodeDoes a (e ∷ []) (frames_of sent) b
 one_step a b e sent steps = record {
   sent = sent;
   middle = b;

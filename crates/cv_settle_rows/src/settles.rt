@@ -5,7 +5,7 @@ ghost use Rattle.cv_mesh.specs.Moving.{AreMeshed, Goes};
 
 use cv_flow::FlowKind;
 use cv_io::OpenGate;
-use cv_kinds::{ActorSpec, Join, Kind, Network};
+use cv_kinds::{ActorSpec, Connection, Kind, Network};
 use cv_link::Item;
 use cv_mesh::join_all;
 use cv_node::Node;
@@ -20,7 +20,7 @@ use std::test::Fail;
 
 const APP: AppId = AppId { node: 1, seq: 1 };
 
-const JOIN: Join = Join {
+const JOIN: Connection = Connection {
     from: 0,
     out: 0,
     to: 1,

@@ -4,7 +4,7 @@ use Rattle.std.proofs.Math.ListN.{drop_of_length-le}
 use Rattle.cv_token.specs.declared.token.Token.{Token}
 use Rattle.cv_behave.specs.KindRow.{Row, head_at, heads_of, needed}
 use Rattle.cv_kinds.specs.declared.network.ActorSpec.{ActorSpec}
-use Rattle.cv_kinds.specs.declared.network.Join.{Join}
+use Rattle.cv_kinds.specs.declared.network.Connection.{Connection}
 use Rattle.cv_kinds.specs.KindRow.{row_of}
 use Rattle.cv_kinds.proofs.Promises.{guard_within}
 use Rattle.cv_solo.specs.declared.stream.Stream.{Stream}
@@ -12,21 +12,21 @@ use Rattle.cv_solo.specs.OneRuntime.{waiting, inputs_from, inputs_of}
 use Rattle.cv_solo.specs.PrintedText.{taken_at}
 
 -- the inputs from a port on are those of that port and of the ports after it
-pub inputs_next : (joins : List Join) (streams : List Stream) (actor port count : ℕ) → port < count → inputs_from joins streams actor port (count - port) ≡ waiting joins streams actor port ∷ inputs_from joins streams actor (port + 1) (count - (port + 1))
+pub inputs_next : (joins : List Connection) (streams : List Stream) (actor port count : ℕ) → port < count → inputs_from joins streams actor port (count - port) ≡ waiting joins streams actor port ∷ inputs_from joins streams actor (port + 1) (count - (port + 1))
 inputs_next joins streams actor port count within =
     let left : count - port ≡ suc (count - (port + 1)) = omega arith in
     rw (left, add-one) refl
 
-taken_on_none : (joins : List Join) (actor port : ℕ) → taken_at joins [] actor port ≡ []
+taken_on_none : (joins : List Connection) (actor port : ℕ) → taken_at joins [] actor port ≡ []
 taken_on_none [] actor port = refl
 taken_on_none (j ∷ js) actor port = refl
 
 -- past the last stream nothing was taken
-pub taken_past : (joins : List Join) (streams : List Stream) (actor port place : ℕ) → length streams ≤ place → taken_at (drop place joins) (drop place streams) actor port ≡ []
+pub taken_past : (joins : List Connection) (streams : List Stream) (actor port place : ℕ) → length streams ≤ place → taken_at (drop place joins) (drop place streams) actor port ≡ []
 taken_past joins streams actor port place past = rw (drop_of_length-le streams past) (taken_on_none (drop place joins) actor port)
 
 -- the input of a port
-inputs_at : (joins : List Join) (streams : List Stream) (actor first count port : ℕ) → port < count → slice_get (inputs_from joins streams actor first count) port ≡ Some (waiting joins streams actor (first + port))
+inputs_at : (joins : List Connection) (streams : List Stream) (actor first count port : ℕ) → port < count → slice_get (inputs_from joins streams actor first count) port ≡ Some (waiting joins streams actor (first + port))
 inputs_at joins streams actor first zero port within = absurd (omega arith)
 inputs_at joins streams actor first (suc count) zero within = let same : first ≡ first + 0 = omega arith in ap (λ (p : ℕ). Some (waiting joins streams actor p)) same
 inputs_at joins streams actor first (suc count) (suc port) within =
@@ -35,7 +35,7 @@ inputs_at joins streams actor first (suc count) (suc port) within =
     inputs_at joins streams actor (suc first) count port less ∙ ap (λ (p : ℕ). Some (waiting joins streams actor p)) next
 
 -- the first token at the guard port, which is an inport
-pub head_waits : (spec : ActorSpec) (joins : List Join) (streams : List Stream) (actor port : ℕ) → (row_of spec.kind).guard_port ≡ Some port → slice_get (waiting joins streams actor port) 0 ≡ head_at (row_of spec.kind).guard_port (inputs_of spec joins streams actor)
+pub head_waits : (spec : ActorSpec) (joins : List Connection) (streams : List Stream) (actor port : ℕ) → (row_of spec.kind).guard_port ≡ Some port → slice_get (waiting joins streams actor port) 0 ≡ head_at (row_of spec.kind).guard_port (inputs_of spec joins streams actor)
 head_waits spec joins streams actor port is =
     let within : port < (row_of spec.kind).inports = subst (λ (p : Option ℕ). IfSome p (λ q. q < (row_of spec.kind).inports)) is (guard_within spec.kind) in
     let same : 0 + port ≡ port = omega arith in
@@ -44,7 +44,7 @@ head_waits spec joins streams actor port is =
     ∙ ap (λ (p : ℕ). slice_get (waiting joins streams actor p) 0) same)
 
 -- the needed tokens, one port more
-pub heads_next : (row : Row) (args : List Token) (action : ℕ) (joins : List Join) (streams : List Stream) (actor port count : ℕ) (heads next whole : List Token) → port < count → next ≡ heads ++ take (needed row args action port) (waiting joins streams actor port) → heads ++ heads_of row args action port (inputs_from joins streams actor port (count - port)) ≡ whole → next ++ heads_of row args action (port + 1) (inputs_from joins streams actor (port + 1) (count - (port + 1))) ≡ whole
+pub heads_next : (row : Row) (args : List Token) (action : ℕ) (joins : List Connection) (streams : List Stream) (actor port count : ℕ) (heads next whole : List Token) → port < count → next ≡ heads ++ take (needed row args action port) (waiting joins streams actor port) → heads ++ heads_of row args action port (inputs_from joins streams actor port (count - port)) ≡ whole → next ++ heads_of row args action (port + 1) (inputs_from joins streams actor (port + 1) (count - (port + 1))) ≡ whole
 heads_next row args action joins streams actor port count heads next whole within is before =
     let later : List (List Token) = inputs_from joins streams actor (port + 1) (count - (port + 1)) in
     let here : List Token = take (needed row args action port) (waiting joins streams actor port) in

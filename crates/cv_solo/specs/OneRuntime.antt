@@ -4,7 +4,7 @@ use Rattle.cv_token.specs.declared.token.Token.{Token}
 use Rattle.cv_behave.specs.declared.behave.Effect.{Effect}
 use Rattle.cv_behave.specs.KindRow.{needed, given_at, heads_of, is_ready, effect_of}
 use Rattle.cv_kinds.specs.declared.network.ActorSpec.{ActorSpec}
-use Rattle.cv_kinds.specs.declared.network.Join.{Join}
+use Rattle.cv_kinds.specs.declared.network.Connection.{Connection}
 use Rattle.cv_kinds.specs.Net.{Net}
 use Rattle.cv_kinds.specs.KindRow.{row_of}
 use Rattle.cv_solo.specs.declared.stream.Stream.{Stream}
@@ -22,44 +22,44 @@ opening net = record {
 }
 
 -- the tokens that wait at an inport: those of its connection that were written and not taken
-abbrev pub waiting : List Join → List Stream → ℕ → ℕ → List Token
+abbrev pub waiting : List Connection → List Stream → ℕ → ℕ → List Token
 waiting [] streams actor port = []
 waiting (j ∷ js) [] actor port = []
 waiting (j ∷ js) (s ∷ ss) actor port = if (j.to == actor) && (j.inp == port) then drop s.took s.wrote else waiting js ss actor port
 
 -- the same for `count` inports from number `port` on
-abbrev pub inputs_from : List Join → List Stream → ℕ → ℕ → ℕ → List (List Token)
+abbrev pub inputs_from : List Connection → List Stream → ℕ → ℕ → ℕ → List (List Token)
 inputs_from joins streams actor port zero = []
 inputs_from joins streams actor port (suc count) = waiting joins streams actor port ∷ inputs_from joins streams actor (suc port) count
 
 -- a connection after a firing of an actor: of the tokens that wait at its inport those needed are taken, and the token
 -- given to its outport is written
-abbrev pub taken_on : ActorSpec → ℕ → ℕ → Join → Stream → ℕ
+abbrev pub taken_on : ActorSpec → ℕ → ℕ → Connection → Stream → ℕ
 taken_on spec actor action j s = if j.to == actor then min (needed (row_of spec.kind) spec.args action j.inp) (length s.wrote - s.took) else 0
 
-abbrev pub given_on : List (Option Token) → ℕ → Join → List Token
+abbrev pub given_on : List (Option Token) → ℕ → Connection → List Token
 given_on out actor j = if j.from == actor then given_at out j.out else []
 
-abbrev pub stream_after : ActorSpec → ℕ → ℕ → List (Option Token) → Join → Stream → Stream
+abbrev pub stream_after : ActorSpec → ℕ → ℕ → List (Option Token) → Connection → Stream → Stream
 stream_after spec actor action out j s = record { wrote = s.wrote ++ given_on out actor j; took = s.took + taken_on spec actor action j s }
 
-abbrev pub streams_after : ActorSpec → ℕ → ℕ → List (Option Token) → List Join → List Stream → List Stream
+abbrev pub streams_after : ActorSpec → ℕ → ℕ → List (Option Token) → List Connection → List Stream → List Stream
 streams_after spec actor action out [] streams = []
 streams_after spec actor action out (j ∷ js) [] = []
 streams_after spec actor action out (j ∷ js) (s ∷ ss) = stream_after spec actor action out j s ∷ streams_after spec actor action out js ss
 
 -- a firing is allowed where its action is ready on the slots and on what waits at the inports
-abbrev pub inputs_of : ActorSpec → List Join → List Stream → ℕ → List (List Token)
+abbrev pub inputs_of : ActorSpec → List Connection → List Stream → ℕ → List (List Token)
 inputs_of spec joins streams actor = inputs_from joins streams actor 0 (row_of spec.kind).inports
 
-abbrev pub ready_of : ActorSpec → List Join → ℕ → ℕ → List Token → List Stream → Bool
+abbrev pub ready_of : ActorSpec → List Connection → ℕ → ℕ → List Token → List Stream → Bool
 ready_of spec joins actor action slots streams = is_ready (row_of spec.kind) spec.args slots action (inputs_of spec joins streams actor)
 
-abbrev pub effect_at : ActorSpec → List Join → ℕ → ℕ → List Token → List Stream → Effect
+abbrev pub effect_at : ActorSpec → List Connection → ℕ → ℕ → List Token → List Stream → Effect
 effect_at spec joins actor action slots streams = effect_of (row_of spec.kind) spec.args slots action (heads_of (row_of spec.kind) spec.args action 0 (inputs_of spec joins streams actor))
 
 -- what one firing does to the actor's slots and to the streams
-pub record FiresOne (spec : ActorSpec) (joins : List Join) (actor action : ℕ) (slots : List Token) (streams : List Stream) (slots_after : List Token) (all_after : List Stream) : Type 0 where
+pub record FiresOne (spec : ActorSpec) (joins : List Connection) (actor action : ℕ) (slots : List Token) (streams : List Stream) (slots_after : List Token) (all_after : List Stream) : Type 0 where
   pub ready : ready_of spec joins actor action slots streams ≡ true
   pub slots_are : slots_after ≡ (effect_at spec joins actor action slots streams).state
   pub streams_are : all_after ≡ streams_after spec actor action (effect_at spec joins actor action slots streams).out joins streams

@@ -3,7 +3,7 @@ use Rattle.std.specs.Prelude.{◌≡◌, ℕ, suc, IsPermutation, IsSorted, ◌=
 use Rattle.std.specs.List.{flat_map}
 use Rattle.cv_token.specs.declared.token.Token.{Token}
 use Rattle.cv_token.specs.Spelling.{spelling}
-use Rattle.cv_kinds.specs.declared.network.Join.{Join}
+use Rattle.cv_kinds.specs.declared.network.Connection.{Connection}
 use Rattle.std.specs.Ordering.{ordering_then, nat_cmp}
 use Rattle.std.specs.Cmp.Lexicographic.{slice_cmp}
 use Rattle.std.specs.declared.cmp.Ordering.{Ordering}
@@ -13,7 +13,7 @@ use Rattle.cv_kinds.specs.KindRow.{is_print}
 use Rattle.cv_solo.specs.declared.stream.Stream.{Stream}
 
 -- the tokens that were taken at an inport
-abbrev pub taken_at : List Join → List Stream → ℕ → ℕ → List Token
+abbrev pub taken_at : List Connection → List Stream → ℕ → ℕ → List Token
 taken_at [] streams actor port = []
 taken_at (j ∷ js) [] actor port = []
 taken_at (j ∷ js) (s ∷ ss) actor port = if (j.to == actor) && (j.inp == port) then take s.took s.wrote else taken_at js ss actor port
@@ -43,7 +43,7 @@ pub record InPathOrder (actors : List ActorSpec) (order : List (List ℕ × ℕ)
   pub sorted : IsSorted print_cmp order
 
 -- the lines of prints in that order: one for each token taken
-abbrev pub lines_of : List Join → List Stream → List (List ℕ × ℕ) → List ℕ
+abbrev pub lines_of : List Connection → List Stream → List (List ℕ × ℕ) → List ℕ
 lines_of joins streams order = flat_map (λ p. print_lines p.0 (taken_at joins streams p.1 0)) order
 
 -- the text that the prints of a network have printed

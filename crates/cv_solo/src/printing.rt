@@ -6,13 +6,13 @@ ghost use Rattle.cv_solo.specs.Keyed.{keyed};
 
 use crate::solo::{Solo, feeds, first_of};
 use crate::stream::Stream;
-use cv_kinds::{ActorSpec, Join};
+use cv_kinds::{ActorSpec, Connection};
 use cv_token::{OutOfMemory, Text, Token, text};
 use std::alloc::Global;
 
 /// The tokens that were taken at an inport.
 #[tactic(auto, using(crate::proofs::Inputs::taken_past))]
-fn taken_at<'a>(joins: &[Join], streams: &'a [Stream], actor: u16, port: u8) -> &'a [Token]
+fn taken_at<'a>(joins: &[Connection], streams: &'a [Stream], actor: u16, port: u8) -> &'a [Token]
     ensures { result.now ≡ taken_at joins.now streams.now actor port }
 {
     for (place, join) in joins.iter().enumerate() {

@@ -12,7 +12,7 @@ ghost use Rattle.cv_kinds.specs.KindRow.{row_of};
 use crate::stream::Stream;
 use crate::touching::{Places, places_by_actor};
 use cv_behave::{Behave, Effect, Outs};
-use cv_kinds::{ActorSpec, Join, Network};
+use cv_kinds::{ActorSpec, Connection, Network};
 use cv_token::{Items, OutOfMemory, Token};
 use std::alloc::{AllocError, Global};
 use std::marker::Model;
@@ -127,7 +127,7 @@ impl Solo {
 fn fire_one(
     alloc: Global,
     spec: &ActorSpec,
-    joins: &[Join],
+    joins: &[Connection],
     places: &[usize],
     slots: &mut Items,
     streams: &mut Vec<Stream>,
@@ -171,7 +171,7 @@ fn fire_one(
 /// Whether the action is ready on the slots and on what waits at the inports.
 fn is_ready(
     spec: &ActorSpec,
-    joins: &[Join],
+    joins: &[Connection],
     places: &[usize],
     streams: &[Stream],
     slots: &Items,
@@ -190,7 +190,7 @@ fn is_ready(
 /// The first token that waits at the guard port.
 fn guard_head<'a>(
     spec: &ActorSpec,
-    joins: &[Join],
+    joins: &[Connection],
     places: &[usize],
     streams: &'a [Stream],
     actor: u16,
@@ -220,7 +220,7 @@ fn advance_all(
     actor: u16,
     action: u8,
     out: &Outs,
-    joins: &[Join],
+    joins: &[Connection],
     places: &[usize],
     streams: &mut Vec<Stream>,
 ) -> Result<(), OutOfMemory>
@@ -258,7 +258,7 @@ fn advance(
     actor: u16,
     action: u8,
     out: &Outs,
-    join: &Join,
+    join: &Connection,
     stream: &mut Stream,
 ) -> Result<Change, OutOfMemory>
     ensures after { OnOk result (stream.new ≡ stream_after spec.now actor action out.now join.now stream.old) }
@@ -288,7 +288,7 @@ fn give(
     alloc: Global,
     actor: u16,
     out: &Outs,
-    join: &Join,
+    join: &Connection,
     wrote: &mut Items,
 ) -> Result<bool, OutOfMemory>
     ensures after { OnOk result (wrote.new ≡ wrote.old ++ given_on out.now actor join.now) }
@@ -308,7 +308,7 @@ fn give(
 }
 
 /// How many tokens a firing takes from a connection.
-fn taken_from(spec: &ActorSpec, actor: u16, action: u8, join: &Join, stream: &Stream) -> u64
+fn taken_from(spec: &ActorSpec, actor: u16, action: u8, join: &Connection, stream: &Stream) -> u64
     ensures taken { result ≡ taken_on spec.now actor action join.now stream.now }
     ensures fits { stream.now.took + result < 2 ^ 64 }
 {
@@ -348,7 +348,7 @@ fn empty_streams(alloc: Global, count: usize) -> Result<Vec<Stream>, OutOfMemory
 /// The tokens that wait at an inport of an actor.
 #[tactic(auto, using(crate::proofs::Touched::waiting_touched, crate::proofs::Touched::touching_within))]
 fn waiting<'a>(
-    joins: &[Join],
+    joins: &[Connection],
     places: &[usize],
     streams: &'a [Stream],
     actor: u16,
@@ -367,7 +367,7 @@ fn waiting<'a>(
 }
 
 /// Whether a connection feeds the inport.
-pub(crate) fn feeds(join: &Join, actor: u16, port: u8) -> bool
+pub(crate) fn feeds(join: &Connection, actor: u16, port: u8) -> bool
     ensures { result ≡ ((join.now.to == actor) && (join.now.inp == port)) }
 {
     join.to == actor && join.inp == port
@@ -389,7 +389,7 @@ fn left_of(stream: &Stream) -> &[Token]
 #[tactic(auto, using(crate::proofs::Inputs::inputs_next))]
 fn has_counts(
     spec: &ActorSpec,
-    joins: &[Join],
+    joins: &[Connection],
     places: &[usize],
     streams: &[Stream],
     actor: u16,
@@ -413,7 +413,7 @@ fn has_counts(
 fn copied_heads(
     alloc: Global,
     spec: &ActorSpec,
-    joins: &[Join],
+    joins: &[Connection],
     places: &[usize],
     streams: &[Stream],
     actor: u16,

@@ -3,7 +3,7 @@
 ghost use Rattle.std.specs.Prelude.{◌≡◌, ◌==◌, IfOk, OnOk, replicate, []};
 ghost use Rattle.cv_solo.specs.Touching.{touches, AreTouching, IsNoted};
 
-use cv_kinds::Join;
+use cv_kinds::Connection;
 use cv_token::OutOfMemory;
 use std::alloc::Global;
 
@@ -14,7 +14,7 @@ pub(crate) type Places = sqlite_items::Items<usize>;
 pub(crate) fn places_by_actor(
     alloc: Global,
     actors: usize,
-    joins: &[Join],
+    joins: &[Connection],
 ) -> Result<Vec<Places>, OutOfMemory>
     ensures { IfOk result (λ places. AreTouching places.items joins.now actors) }
 {
@@ -37,7 +37,7 @@ fn no_places(alloc: Global, actors: usize) -> Result<Vec<Places>, OutOfMemory>
 }
 
 /// Notes a connection's place for the actors that it touches.
-fn note(places: &mut Vec<Places>, join: &Join, place: usize) -> Result<(), OutOfMemory>
+fn note(places: &mut Vec<Places>, join: &Connection, place: usize) -> Result<(), OutOfMemory>
     ensures { OnOk result (IsNoted (touches join.now) place places.old.items places.new.items) }
 {
     note_for(places, join.to, place)?;

@@ -19,7 +19,7 @@ use Rattle.cv_mesh.proofs.Listing.{at_place}
 use Rattle.cv_alone.specs.Resting.{run_app}
 use Rattle.cv_handover.specs.Meaning.{spec_of}
 use Rattle.cv_handover.specs.Placed.{IsFresh, IsPlaced, owner_in}
-use Rattle.cv_spread.specs.Placing.{home, nets, node_spec, openings, owners, place_of, places}
+use Rattle.cv_spread.specs.Placing.{home, nets, node_spec, openings, owners, home_node, places}
 use Rattle.cv_spread.proofs.Staying.{Settled}
 
 one_same : (a b : AppId) → same_app a b ≡ true → a ≡ b
@@ -62,7 +62,7 @@ module _ (nodes : ℕ) (net : Net) where
       record {
         app = one_same a.app run_app h.0;
         place = h.1;
-        listed = omega (arith, within, length-map-range_with_len (place_of nodes) 0 (length net.actors));
+        listed = omega (arith, within, length-map-range_with_len (home_node nodes) 0 (length net.actors));
       }
 
   lives_there : (nobody : ActorSpec) (a : ActorId) (i : ℕ) → home nodes net a ≡ Some i → (l : LiveState) × (fin.get (openings nodes net i).live a ≡ Some l) × IsFresh (nets net nobody) a l

@@ -31,8 +31,8 @@ use Rattle.cv_mesh.specs.Links.{LinkKept}
 use Rattle.cv_mesh.specs.Moving.{Each}
 use Rattle.cv_mesh.proofs.Listing.{contains_map, map_again, same_map}
 use Rattle.cv_cluster.specs.Cluster.{ClusterView, GoesOn, Grows, Stops, firings_of, node_number}
-use Rattle.cv_alone.specs.declared.alone.Stop.{Stop}
-use Rattle.cv_alone.specs.declared.alone.Stop.TheVariants.{Spent, Quiescent}
+use Rattle.cv_alone.specs.declared.alone.RunEnd.{RunEnd}
+use Rattle.cv_alone.specs.declared.alone.RunEnd.TheVariants.{Spent, Quiescent}
 use Rattle.cv_alone.specs.Resting.{run_app}
 use Rattle.cv_handover.specs.Placed.{owner_in}
 use Rattle.cv_handover.specs.Runs.{CarriesNet, CarryNets, IsRun, OneOwner}
@@ -75,12 +75,12 @@ carries net nobody s (event.Deliver f) own = tt
 
 -- 2. The end
 
-pub record Ended (items : List Item) (net : Net) (nodes most : ℕ) (stop : Stop) (c : ClusterView) : Type 0 where
+pub record Ended (items : List Item) (net : Net) (nodes most : ℕ) (stop : RunEnd) (c : ClusterView) : Type 0 where
   pub fired : ℕ
   pub goes : GoesOn (opened_cluster nodes net items) c fired
   pub ends : EndsAfter most stop fired
 
-pub ended : (items : List Item) (net : Net) (nodes most : ℕ) (stop : Stop) (c : ClusterView) → Stops (opened_cluster nodes net items) most stop c → Ended items net nodes most stop c
+pub ended : (items : List Item) (net : Net) (nodes most : ℕ) (stop : RunEnd) (c : ClusterView) → Stops (opened_cluster nodes net items) most stop c → Ended items net nodes most stop c
 ended items net nodes most Spent c s = record { fired = most; goes = s; ends = refl }
 ended items net nodes most Quiescent c s = record { fired = s.0; goes = s.2; ends = s.1 }
 
@@ -247,7 +247,7 @@ module _ (items : List Item) (net : Net) (nodes : ℕ) (c : ClusterView) (grown 
       let entries = subst (λ (es : List Entry). LinkKept c.items (node_number s.0) (node_number t.0) es) (sym (journal_of t.0 t.1)) kept in
       subst (λ (i : ℕ). LinkKept items i to (journals to)) s.2 (subst (λ (i : ℕ). LinkKept items (node_number s.0) i (journals i)) t.2 (subst (λ (is : List Item). LinkKept is (node_number s.0) (node_number t.0) (journals (node_number t.0))) same entries))
 
-pub is_spread_run : (net : Net) (nodes : ℕ) (items : List Item) (most : ℕ) (stop : Stop) (c : ClusterView) (m : Record) → IsWired net → Stops (opened_cluster nodes net items) most stop c → c.failed ≡ false → IsRecordFor c m → IsSpreadRun net nodes items most stop m
+pub is_spread_run : (net : Net) (nodes : ℕ) (items : List Item) (most : ℕ) (stop : RunEnd) (c : ClusterView) (m : Record) → IsWired net → Stops (opened_cluster nodes net items) most stop c → c.failed ≡ false → IsRecordFor c m → IsSpreadRun net nodes items most stop m
 is_spread_run net nodes items most stop c m wired stops fine r =
     let e = ended items net nodes most stop c stops in
     let grown = e.goes.nodes in
@@ -272,7 +272,7 @@ is_spread_run net nodes items most stop c m wired stops fine r =
     }
 
 -- the one runtime could fire all that is recorded, in recorded order
-pub one_runtime : (net : Net) (nodes : ℕ) (items : List Item) (most : ℕ) (stop : Stop) (m : Record) → IsSpreadRun net nodes items most stop m → (after : Runtime) × (solo net (firings run_app m.entries) ≡ Some after)
+pub one_runtime : (net : Net) (nodes : ℕ) (items : List Item) (most : ℕ) (stop : RunEnd) (m : Record) → IsSpreadRun net nodes items most stop m → (after : Runtime) × (solo net (firings run_app m.entries) ≡ Some after)
 one_runtime net nodes items most stop m run =
     let whole = run.streams m.entries [] (sym (append-nil m.entries)) nobody in
     (whole.runtime, whole.defined)

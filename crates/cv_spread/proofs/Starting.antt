@@ -13,7 +13,7 @@ use Rattle.cv_merge.specs.Lanes.{AllAbove, Ascends}
 use Rattle.cv_cluster.specs.Cluster.{ClusterView, node_number}
 use Rattle.cv_cluster.specs.Opening.{AllAmong, AllAreForNodes, AllItemsFit, AllUnused, Opens, are_two, fits, is_among, is_for_node, new_node, opened_node}
 use Rattle.cv_spread.specs.Clusters.{node_at, opened_cluster}
-use Rattle.cv_spread.specs.Placing.{IsLink, IsNode, ItemFits, ItemsFit, node_spec, node_specs, place_of, places}
+use Rattle.cv_spread.specs.Placing.{IsLink, IsNode, ItemFits, ItemsFit, node_spec, node_specs, home_node, places}
 use Rattle.cv_spread.proofs.Ranges.{contains_first, contains_later, mapped_in}
 
 -- 1. The numbers of the nodes
@@ -105,12 +105,12 @@ unused specs n c =
     let m = mapped_in new_node specs n c in
     subst (λ (k : Journalled). k ≡ new_node k.base.spec) m.2 refl
 
-among_nodes : (nodes actor : ℕ) → 1 ≤ nodes → is_among (range_with_len 1 nodes) (place_of nodes actor) ≡ true
+among_nodes : (nodes actor : ℕ) → 1 ≤ nodes → is_among (range_with_len 1 nodes) (home_node nodes actor) ≡ true
 among_nodes nodes actor some =
     let some_nodes : 0 < nodes = omega (arith, some) in
-    among 1 nodes (place_of nodes actor) (omega arith) (omega (arith, mod-lt actor some_nodes))
+    among 1 nodes (home_node nodes actor) (omega arith) (omega (arith, mod-lt actor some_nodes))
 
-all_among : (nodes : ℕ) (actors : List ℕ) → 1 ≤ nodes → list_all (is_among (range_with_len 1 nodes)) (map (place_of nodes) actors) ≡ true
+all_among : (nodes : ℕ) (actors : List ℕ) → 1 ≤ nodes → list_all (is_among (range_with_len 1 nodes)) (map (home_node nodes) actors) ≡ true
 all_among nodes [] some = refl
 all_among nodes (a ∷ actors) some = ap₂ ◌&&◌ (among_nodes nodes a some) (all_among nodes actors some)
 
@@ -119,7 +119,7 @@ places_among nodes net some =
     subst (λ (is : List ℕ). list_all (is_among is) (places nodes net) ≡ true) (sym (node_numbers (range_with_len 1 nodes))) (all_among nodes (range_with_len 0 (length net.actors)) some)
 
 pub places_length : (nodes : ℕ) (net : Net) → length (places nodes net) ≡ length net.actors
-places_length nodes net = length-map-range_with_len (place_of nodes) 0 (length net.actors)
+places_length nodes net = length-map-range_with_len (home_node nodes) 0 (length net.actors)
 
 open_all : (nodes : ℕ) (net : Net) (is : List ℕ) → map (opened_node net (places nodes net)) (map new_node (map node_spec is)) ≡ map (node_at nodes net) is
 open_all nodes net [] = refl

@@ -32,12 +32,12 @@ IsNode nodes i = (1 ≤ i) × (i ≤ nodes)
 -- 2. Where the actors live
 
 -- the actors go to the nodes in turn, in the order of the network
-abbrev pub place_of : ℕ → ℕ → ℕ
-place_of nodes actor = actor % nodes + 1
+abbrev pub home_node : ℕ → ℕ → ℕ
+home_node nodes actor = actor % nodes + 1
 
 -- the node of each actor
 abbrev pub places : ℕ → Net → List ℕ
-places nodes net = map (place_of nodes) (range_with_len 0 (length net.actors))
+places nodes net = map (home_node nodes) (range_with_len 0 (length net.actors))
 
 -- node i before its first entry: it knows the network and where each actor lives, and its own actors live there
 abbrev pub openings : ℕ → Net → ℕ → NodeState

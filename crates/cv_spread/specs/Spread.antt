@@ -13,8 +13,8 @@ use Rattle.cv_protocol.specs.NodeState.{NodeState}
 use Rattle.cv_link.specs.declared.items.Item.{Item}
 use Rattle.cv_mesh.specs.Going.{is_of_run}
 use Rattle.cv_mesh.specs.Links.{LinkKept}
-use Rattle.cv_alone.specs.declared.alone.Stop.{Stop}
-use Rattle.cv_alone.specs.declared.alone.Stop.TheVariants.{Spent, Quiescent}
+use Rattle.cv_alone.specs.declared.alone.RunEnd.{RunEnd}
+use Rattle.cv_alone.specs.declared.alone.RunEnd.TheVariants.{Spent, Quiescent}
 use Rattle.cv_alone.specs.Resting.{run_app}
 use Rattle.cv_handover.specs.Alone.{Alone}
 use Rattle.cv_handover.specs.Runs.{OneOwner}
@@ -22,7 +22,7 @@ use Rattle.cv_handover.specs.Runtimes.{firings}
 use Rattle.cv_spread.specs.Placing.{IsNode, home, node_specs, openings, owners, nets, start}
 
 -- spent comes exactly after the firings that were allowed, quiescent only after fewer
-abbrev pub EndsAfter : ℕ → Stop → ℕ → Type 0
+abbrev pub EndsAfter : ℕ → RunEnd → ℕ → Type 0
 EndsAfter most Spent fired = fired ≡ most
 EndsAfter most Quiescent fired = fired < most
 
@@ -38,7 +38,7 @@ StayAtHome nodes net begins =
     (i : ℕ) (s : NodeState) (a : ActorId) → replay (openings nodes net i) (entries_of i begins) ≡ Some s → ((is_some (map.get s.live a) ≡ true) ↔ (home nodes net a ≡ Some i))
 
 -- a run of a network over the nodes 1 to `nodes`, with these items and so many firings at most, that stopped so, with this record
-pub record IsSpreadRun (net : Net) (nodes : ℕ) (items : List Item) (most : ℕ) (stop : Stop) (m : Record) : Type 0 where
+pub record IsSpreadRun (net : Net) (nodes : ℕ) (items : List Item) (most : ℕ) (stop : RunEnd) (m : Record) : Type 0 where
   pub specs : m.specs ≡ node_specs nodes
   -- the record is that of the journals of these nodes, each a local run from the node's opening
   pub journals : ℕ → List Entry

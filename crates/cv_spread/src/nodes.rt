@@ -2,7 +2,7 @@
 
 ghost use Rattle.std.specs.Prelude.{◌≡◌, ◌≤◌, map, IfOk};
 ghost use Rattle.std.specs.List.{range_with_len};
-ghost use Rattle.cv_spread.specs.Placing.{node_spec, node_specs, place_of};
+ghost use Rattle.cv_spread.specs.Placing.{node_spec, node_specs, home_node};
 
 use cv_rules::{Attrs, NodeSpec};
 use cv_token::{OutOfMemory, Pair, Text};
@@ -39,7 +39,7 @@ fn node_spec(alloc: Global, no: u16) -> Result<NodeSpec, OutOfMemory>
 /// The node of each of so many actors: they go to the nodes in turn.
 pub(crate) fn places(alloc: Global, nodes: u16, actors: u16) -> Result<Vec<u16>, OutOfMemory>
     requires { (1 ≤ nodes) × (nodes ≤ 16) }
-    ensures { IfOk result (λ at. at.items ≡ map (place_of nodes) (range_with_len 0 actors)) }
+    ensures { IfOk result (λ at. at.items ≡ map (home_node nodes) (range_with_len 0 actors)) }
 {
     let mut at = Vec::new(alloc);
     for actor in 0..actors {

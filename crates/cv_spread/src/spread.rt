@@ -7,7 +7,7 @@ ghost use Rattle.cv_spread.specs.Placing.{ItemsFit};
 ghost use Rattle.cv_spread.specs.Spread.{IsSpreadRun};
 
 use crate::nodes::{node_specs, places};
-use cv_alone::Stop;
+use cv_alone::RunEnd;
 use cv_cluster::Cluster;
 use cv_io::Gate;
 use cv_kinds::Network;
@@ -28,7 +28,7 @@ pub fn run_spread<R: Threads + Sync, G: Gate>(
     items: Vec<Item>,
     most: u32,
     gate: &G,
-) -> Result<(Stop, Record), OutOfMemory>
+) -> Result<(RunEnd, Record), OutOfMemory>
     requires nodes { (2 ≤ nodes) × (nodes ≤ 16) }
     requires items { ItemsFit nodes items.items }
     requires wired { IsWired net }

@@ -4,7 +4,7 @@ use Rattle.std.specs.FinMap as map
 use Rattle.cv_token.specs.declared.identifiers.AppId.{AppId}
 use Rattle.cv_table.specs.Order.{actor_cmp}
 use Rattle.cv_kinds.specs.declared.network.ActorSpec.{ActorSpec}
-use Rattle.cv_kinds.specs.declared.network.Join.{Join}
+use Rattle.cv_kinds.specs.declared.network.Connection.{Connection}
 use Rattle.cv_kinds.specs.Net.{Net}
 use Rattle.cv_protocol.specs.declared.event.Event.TheVariants as event
 use Rattle.cv_protocol.specs.declared.moving.Location.{Location}
@@ -18,11 +18,11 @@ use Rattle.cv_state.specs.Deploying.{all_settled, are_due, deployed_known, new_l
 use Rattle.cv_state.proofs.Local.{spent}
 
 -- the actors at the start live here
-pub settles : (app : AppId) (joins : List Join) (now actor : ℕ) (specs : List ActorSpec) (live : map.FinMap actor_cmp LiveState) → all_settled app actor (new_lives app joins now actor specs) live ≡ all_live app joins now actor specs live
+pub settles : (app : AppId) (joins : List Connection) (now actor : ℕ) (specs : List ActorSpec) (live : map.FinMap actor_cmp LiveState) → all_settled app actor (new_lives app joins now actor specs) live ≡ all_live app joins now actor specs live
 settles app joins now actor [] live = refl
 settles app joins now actor (spec ∷ specs) live = settles app joins now (suc actor) specs _
 
-pub lives_count : (app : AppId) (joins : List Join) (now actor : ℕ) (specs : List ActorSpec) → length (new_lives app joins now actor specs) ≡ length specs
+pub lives_count : (app : AppId) (joins : List Connection) (now actor : ℕ) (specs : List ActorSpec) → length (new_lives app joins now actor specs) ≡ length specs
 lives_count app joins now actor [] = refl
 lives_count app joins now actor (spec ∷ specs) = ap suc (lives_count app joins now (suc actor) specs)
 

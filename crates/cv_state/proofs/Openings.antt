@@ -7,7 +7,7 @@ use Rattle.cv_token.specs.declared.identifiers.ActorId.{ActorId}
 use Rattle.cv_table.specs.Order.{actor_cmp}
 use Rattle.cv_table.proofs.Views.{get_inserted, same_actor-cases}
 use Rattle.cv_kinds.specs.declared.network.ActorSpec.{ActorSpec}
-use Rattle.cv_kinds.specs.declared.network.Join.{Join}
+use Rattle.cv_kinds.specs.declared.network.Connection.{Connection}
 use Rattle.cv_kinds.specs.Net.{Net}
 use Rattle.cv_rules.specs.declared.attrs.NodeSpec.{NodeSpec}
 use Rattle.cv_protocol.specs.Actors.{LiveState}
@@ -37,7 +37,7 @@ module _ (m : map.FinMap actor_cmp LiveState) (a : ActorId) (l : LiveState) wher
         | inr s ↦ get_inserted m a l b ∙ ap (λ (t : Bool). cond t (Some l) (map.get m b)) s.0
       ]
 
-module _ (app : AppId) (joins : List Join) (home : ℕ) where
+module _ (app : AppId) (joins : List Connection) (home : ℕ) where
   abbrev numbered : ℕ → ActorId
   numbered k = record { app = app; actor = k }
 

@@ -38,7 +38,7 @@ use Rattle.cv_state.proofs.Seats.{sits}
 -- 1. Ways that the code was told
 
 -- what is known of a way as the code was told of it
-pub record Leads (s : NodeState) (conn : ConnId) (f : Told) : Type 0 where
+pub record IsWayTold (s : NodeState) (conn : ConnId) (f : Told) : Type 0 where
   pub way : Way
   pub there : way_of s conn ≡ Some way
   pub is : f ≡ way_in way
@@ -47,26 +47,26 @@ pub record Leads (s : NodeState) (conn : ConnId) (f : Told) : Type 0 where
   pub seat : seat_of way.outlet.spot.reader.conn 0 way.live.actor.ins ≡ Some way.seat
   pub sits : slice_get way.live.actor.ins way.seat.inp ≡ Some (Some way.seat.inlet)
 
-leads_into : (s : NodeState) (conn : ConnId) (f : Told) (x : Outlet) (l : LiveState) (y : Option Seat) → way_of s conn ≡ way_into x l y → outlet_of s conn ≡ Some x → map.get s.live x.spot.reader.consumer ≡ Some l → seat_of x.spot.reader.conn 0 l.actor.ins ≡ y → Some f ≡ option_map way_in (way_into x l y) → Leads s conn f
+leads_into : (s : NodeState) (conn : ConnId) (f : Told) (x : Outlet) (l : LiveState) (y : Option Seat) → way_of s conn ≡ way_into x l y → outlet_of s conn ≡ Some x → map.get s.live x.spot.reader.consumer ≡ Some l → seat_of x.spot.reader.conn 0 l.actor.ins ≡ y → Some f ≡ option_map way_in (way_into x l y) → IsWayTold s conn f
 leads_into s conn f x l None there outlet lives seat e = absurd (cc)
 leads_into s conn f x l (Some y) there outlet lives seat e =
     let w : Way = record { outlet = x; live = l; seat = y } in
     let same : f ≡ way_in w = cc in
     record { way = w; there = there; is = same; outlet = outlet; lives = lives; seat = seat; sits = sits x.spot.reader.conn l.actor.ins y seat }
 
-leads_at : (s : NodeState) (conn : ConnId) (f : Told) (x : Outlet) (l : Option LiveState) → way_of s conn ≡ way_to x l → outlet_of s conn ≡ Some x → map.get s.live x.spot.reader.consumer ≡ l → Some f ≡ option_map way_in (way_to x l) → Leads s conn f
+leads_at : (s : NodeState) (conn : ConnId) (f : Told) (x : Outlet) (l : Option LiveState) → way_of s conn ≡ way_to x l → outlet_of s conn ≡ Some x → map.get s.live x.spot.reader.consumer ≡ l → Some f ≡ option_map way_in (way_to x l) → IsWayTold s conn f
 leads_at s conn f x None there outlet lives e = absurd (cc)
 leads_at s conn f x (Some l) there outlet lives e = leads_into s conn f x l (seat_of x.spot.reader.conn 0 l.actor.ins) there outlet lives refl e
 
-leads_by : (s : NodeState) (conn : ConnId) (f : Told) (x : Option Outlet) → way_of s conn ≡ way_from s x → outlet_of s conn ≡ x → Some f ≡ option_map way_in (way_from s x) → Leads s conn f
+leads_by : (s : NodeState) (conn : ConnId) (f : Told) (x : Option Outlet) → way_of s conn ≡ way_from s x → outlet_of s conn ≡ x → Some f ≡ option_map way_in (way_from s x) → IsWayTold s conn f
 leads_by s conn f None there outlet e = absurd (cc)
 leads_by s conn f (Some x) there outlet e = leads_at s conn f x (map.get s.live x.spot.reader.consumer) there outlet refl e
 
-pub leads_on : (s : NodeState) (conn : ConnId) (f : Told) → Some f ≡ option_map way_in (way_of s conn) → Leads s conn f
+pub leads_on : (s : NodeState) (conn : ConnId) (f : Told) → Some f ≡ option_map way_in (way_of s conn) → IsWayTold s conn f
 leads_on s conn f e = leads_by s conn f (outlet_of s conn) refl refl e
 
 -- its outlet
-pub outlet_told : (s : NodeState) (conn : ConnId) (f : Told) → Leads s conn f → Has s conn f.outlet
+pub outlet_told : (s : NodeState) (conn : ConnId) (f : Told) → IsWayTold s conn f → Has s conn f.outlet
 outlet_told s conn f h =
     has s conn f.outlet (ap (λ (g : Told). Some g.outlet) h.is ∙ sym (ap (option_map outlet_in) h.outlet))
 
@@ -75,7 +75,7 @@ pub record Seated (w : Way) (f : Told) (l : LiveState) : Type 0 where
   pub live : l ≡ w.live
   pub inlet : inlet_at l f.inp ≡ Some w.seat.inlet
 
-pub seated_there : (s : NodeState) (conn : ConnId) (f : Told) (h : Leads s conn f) (l : LiveState) → Some l ≡ map.get s.live f.outlet.spot.reader.consumer → Seated h.way f l
+pub seated_there : (s : NodeState) (conn : ConnId) (f : Told) (h : IsWayTold s conn f) (l : LiveState) → Some l ≡ map.get s.live f.outlet.spot.reader.consumer → Seated h.way f l
 seated_there s conn f h l found =
     let lives : Some l ≡ Some h.way.live = found ∙ ap (λ (g : Told). map.get s.live g.outlet.spot.reader.consumer) h.is ∙ h.lives in
     let live : l ≡ h.way.live = cc in
@@ -91,14 +91,14 @@ pub port_found : (w : Way) (f : Told) (l : LiveState) (i : InView) → Seated w 
 port_found w f l i h is = let same : Some i ≡ Some w.seat.inlet.port = is ∙ ap (option_map (λ (i : Inlet). i.port)) h.inlet in cc
 
 -- the state once the inport was written
-pub given_is : (s : NodeState) (conn : ConnId) (f : Told) (h : Leads s conn f) (l : LiveState) (i p : InView) (t : Token) → Seated h.way f l → i ≡ h.way.seat.inlet.port → p ≡ after_offer i (received i) t → record s { live = map.insert s.live f.outlet.spot.reader.consumer (with_inport l f.inp p) } ≡ given_at s (way_of s conn) t
+pub given_is : (s : NodeState) (conn : ConnId) (f : Told) (h : IsWayTold s conn f) (l : LiveState) (i p : InView) (t : Token) → Seated h.way f l → i ≡ h.way.seat.inlet.port → p ≡ after_offer i (received i) t → record s { live = map.insert s.live f.outlet.spot.reader.consumer (with_inport l f.inp p) } ≡ given_at s (way_of s conn) t
 given_is s conn f h l i p t seated port is =
     ap (λ (q : InView). record s { live = map.insert s.live f.outlet.spot.reader.consumer (with_inport l f.inp q) }) is
     ∙ (λ j. record s { live = map.insert s.live (h.is j).outlet.spot.reader.consumer (record (seated.live j) { actor = record ((seated.live j).actor) { ins = slice_set (seated.live j).actor.ins (h.is j).inp (refilled (after_offer (port j) (received (port j)) t) (seated.inlet j)) } }) })
     ∙ ap (λ (w : Option Way). given_at s w t) (sym h.there)
 
 -- what passes between the ports that the code found
-pub passing_is : (s : NodeState) (conn : ConnId) (f : Told) (h : Leads s conn f) (o : OutView) (i : InView) → o ≡ (outlet_told s conn f h).outlet.spot.port → i ≡ h.way.seat.inlet.port → passing_of o f.outlet.spot.number i ≡ passing_on (way_of s conn)
+pub passing_is : (s : NodeState) (conn : ConnId) (f : Told) (h : IsWayTold s conn f) (o : OutView) (i : InView) → o ≡ (outlet_told s conn f h).outlet.spot.port → i ≡ h.way.seat.inlet.port → passing_of o f.outlet.spot.number i ≡ passing_on (way_of s conn)
 passing_is s conn f h o i out inp =
     let g = outlet_told s conn f h in
     let one : Some g.outlet ≡ Some h.way.outlet = sym g.there ∙ h.outlet in
@@ -125,7 +125,7 @@ passes : (o : OutView) (reader : ℕ) (i : InView) (p : Passing) → passing_of 
 passes o reader i p e = passes_by o reader i p (nat_le (acked o reader) (received i)) (to_move o reader i) refl refl e
 
 -- what passes on the way
-way_passes : (s : NodeState) (conn : ConnId) (f : Told) (h : Leads s conn f) (p : Passing) → Some p ≡ passing_on (way_of s conn) → Passes h.way.outlet.spot.port h.way.outlet.spot.number h.way.seat.inlet.port p
+way_passes : (s : NodeState) (conn : ConnId) (f : Told) (h : IsWayTold s conn f) (p : Passing) → Some p ≡ passing_on (way_of s conn) → Passes h.way.outlet.spot.port h.way.outlet.spot.number h.way.seat.inlet.port p
 way_passes s conn f h p there =
     passes h.way.outlet.spot.port h.way.outlet.spot.number h.way.seat.inlet.port p (ap passing_on (sym h.there) ∙ sym there)
 
@@ -154,7 +154,7 @@ still_by m x c l y i produces consumes (inr apart) =
     }
 
 -- what the way's outlet and consumer are
-produces : (s : NodeState) (conn : ConnId) (f : Told) (h : Leads s conn f) → map.get s.live h.way.outlet.producer ≡ Some h.way.outlet.live
+produces : (s : NodeState) (conn : ConnId) (f : Told) (h : IsWayTold s conn f) → map.get s.live h.way.outlet.producer ≡ Some h.way.outlet.live
 produces s conn f h =
     let g = outlet_told s conn f h in
     let one : Some g.outlet ≡ Some h.way.outlet = sym g.there ∙ h.outlet in
@@ -162,7 +162,7 @@ produces s conn f h =
     let lives : map.get s.live g.outlet.producer ≡ Some g.outlet.live = ap (λ (k : Found). map.get s.live k.producer) (sym g.is) ∙ g.lives in
     subst (λ (x : Outlet). map.get s.live x.producer ≡ Some x.live) same lives
 
-stands_there : (s : NodeState) (conn : ConnId) (f : Told) (h : Leads s conn f) → Stands h.way.outlet.live.actor.outs h.way.outlet.spot
+stands_there : (s : NodeState) (conn : ConnId) (f : Told) (h : IsWayTold s conn f) → Stands h.way.outlet.live.actor.outs h.way.outlet.spot
 stands_there s conn f h =
     let g = outlet_told s conn f h in
     let one : Some g.outlet ≡ Some h.way.outlet = sym g.there ∙ h.outlet in
@@ -206,13 +206,13 @@ received_had s conn f p told there none =
     ap (λ (m : map.FinMap actor_cmp LiveState). record s { live = m }) (sym (unwritten s h.way q.token h.lives h.sits q.moves had)) ∙ ap (received_at s) (sym h.there)
 
 -- the producer's actor then
-still_there : (s : NodeState) (conn : ConnId) (f : Told) (h : Leads s conn f) → Still (written s h.way) h.way.outlet
+still_there : (s : NodeState) (conn : ConnId) (f : Told) (h : IsWayTold s conn f) → Still (written s h.way) h.way.outlet
 still_there s conn f h =
     let w = h.way in
     let x = w.outlet in
     still_by s.live x x.spot.reader.consumer w.live w.seat _ (produces s conn f h) h.lives (same_actor-cases x.producer x.spot.reader.consumer)
 
-port_then : (s : NodeState) (conn : ConnId) (f : Told) (h : Leads s conn f) → slice_get (still_there s conn f h).live.actor.outs h.way.outlet.spot.out ≡ Some h.way.outlet.spot.port
+port_then : (s : NodeState) (conn : ConnId) (f : Told) (h : IsWayTold s conn f) → slice_get (still_there s conn f h).live.actor.outs h.way.outlet.spot.out ≡ Some h.way.outlet.spot.port
 port_then s conn f h =
     ap (λ (outs : List OutView). slice_get outs h.way.outlet.spot.out) (still_there s conn f h).outs ∙ (stands_there s conn f h).port
 
@@ -269,14 +269,14 @@ abbrev way_pass : NodeState → Way → Bool → Option Did
 way_pass s w b = pass_known s w.outlet w.outlet.spot.reader.consumer w.live w.seat b
 
 -- what the reader acknowledged, as its port tells it
-acked_there : (s : NodeState) (conn : ConnId) (f : Told) (h : Leads s conn f) → h.way.outlet.spot.reader.acked ≡ acked h.way.outlet.spot.port h.way.outlet.spot.number
+acked_there : (s : NodeState) (conn : ConnId) (f : Told) (h : IsWayTold s conn f) → h.way.outlet.spot.reader.acked ≡ acked h.way.outlet.spot.port h.way.outlet.spot.number
 acked_there s conn f h =
     let g = outlet_told s conn f h in
     let one : Some g.outlet ≡ Some h.way.outlet = sym g.there ∙ h.outlet in
     let same : g.outlet ≡ h.way.outlet = cc in
     subst (λ (x : Outlet). x.spot.reader.acked ≡ acked x.spot.port x.spot.number) same (ap acked_of (sym g.stands.reader))
 
-by_way : (s : NodeState) (conn : ConnId) (f : Told) (h : Leads s conn f) → pass s (outlet_of s conn) ≡ way_pass s h.way (nat_le (acked h.way.outlet.spot.port h.way.outlet.spot.number) (received h.way.seat.inlet.port))
+by_way : (s : NodeState) (conn : ConnId) (f : Told) (h : IsWayTold s conn f) → pass s (outlet_of s conn) ≡ way_pass s h.way (nat_le (acked h.way.outlet.spot.port h.way.outlet.spot.number) (received h.way.seat.inlet.port))
 by_way s conn f h =
     let w = h.way in
     let x = w.outlet in
@@ -285,7 +285,7 @@ by_way s conn f h =
     ∙ ap (pass_into s x x.spot.reader.consumer w.live) h.seat
     ∙ ap (λ (n : ℕ). way_pass s w (nat_le n (received w.seat.inlet.port))) (acked_there s conn f h)
 
-cause_by_way : (s : NodeState) (conn : ConnId) (f : Told) (h : Leads s conn f) → cause_of s (event.Pass conn) ≡ last_cause (s.stamp + 1) (event.Pass conn) (pass s (outlet_of s conn))
+cause_by_way : (s : NodeState) (conn : ConnId) (f : Told) (h : IsWayTold s conn f) → cause_of s (event.Pass conn) ≡ last_cause (s.stamp + 1) (event.Pass conn) (pass s (outlet_of s conn))
 cause_by_way s conn f h =
     let x = h.way.outlet in
     by_consumer s conn x (Some h.way.live) h.outlet h.lives
@@ -313,7 +313,7 @@ pass_did s w t = record {
   fits = nat_lt (received (in_after_move w.outlet.spot.port w.outlet.spot.number w.seat.inlet.port)) limit;
 }
 
-does_pass : (s : NodeState) (conn : ConnId) (f : Told) (h : Leads s conn f) (p : Passing) (q : Passes h.way.outlet.spot.port h.way.outlet.spot.number h.way.seat.inlet.port p) → pass s (outlet_of s conn) ≡ Some (pass_did s h.way q.token)
+does_pass : (s : NodeState) (conn : ConnId) (f : Told) (h : IsWayTold s conn f) (p : Passing) (q : Passes h.way.outlet.spot.port h.way.outlet.spot.number h.way.seat.inlet.port p) → pass s (outlet_of s conn) ≡ Some (pass_did s h.way q.token)
 does_pass s conn f h p q =
     let w = h.way in
     by_way s conn f h
@@ -321,7 +321,7 @@ does_pass s conn f h p q =
     ∙ ap (pass_token s w.outlet w.outlet.spot.reader.consumer w.live w.seat) q.moves
 
 -- whether the numbers of the row are below the limit
-bounded_by : (s : NodeState) (conn : ConnId) (f : Told) (h : Leads s conn f) (p : Passing) (q : Passes h.way.outlet.spot.port h.way.outlet.spot.number h.way.seat.inlet.port p) (b : Bool) → nat_lt p.received limit && nat_lt (s.stamp + 1) limit ≡ b → is_bounded (s.stamp + 1) (pass_did s h.way q.token) ≡ b
+bounded_by : (s : NodeState) (conn : ConnId) (f : Told) (h : IsWayTold s conn f) (p : Passing) (q : Passes h.way.outlet.spot.port h.way.outlet.spot.number h.way.seat.inlet.port p) (b : Bool) → nat_lt p.received limit && nat_lt (s.stamp + 1) limit ≡ b → is_bounded (s.stamp + 1) (pass_did s h.way q.token) ≡ b
 bounded_by s conn f h p q b e = ap (λ (r : Passing). nat_lt r.received limit && nat_lt (s.stamp + 1) limit) (sym q.is) ∙ e
 
 -- it is refused where a number is spent, and else not

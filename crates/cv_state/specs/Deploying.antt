@@ -5,7 +5,7 @@ use Rattle.std.specs.FinMap as map
 use Rattle.cv_token.specs.declared.identifiers.AppId.{AppId}
 use Rattle.cv_table.specs.Order.{actor_cmp}
 use Rattle.cv_kinds.specs.declared.network.ActorSpec.{ActorSpec}
-use Rattle.cv_kinds.specs.declared.network.Join.{Join}
+use Rattle.cv_kinds.specs.declared.network.Connection.{Connection}
 use Rattle.cv_kinds.specs.Net.{Net}
 use Rattle.cv_protocol.specs.declared.moving.Application.TheVariants as known
 use Rattle.cv_protocol.specs.Actors.{LiveState}
@@ -19,7 +19,7 @@ abbrev pub are_due : ℕ → List ActorSpec → Bool
 are_due now actors = list_all (λ (spec : ActorSpec). nat_lt (first_due spec now) limit) actors
 
 -- the actors of a network from number `actor` on, at the start
-abbrev pub new_lives : AppId → List Join → ℕ → ℕ → List ActorSpec → List LiveState
+abbrev pub new_lives : AppId → List Connection → ℕ → ℕ → List ActorSpec → List LiveState
 new_lives app joins now actor [] = []
 new_lives app joins now actor (spec ∷ specs) =
     new_live app joins actor spec now ∷ new_lives app joins now (suc actor) specs

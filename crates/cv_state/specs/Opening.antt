@@ -5,7 +5,7 @@ use Rattle.cv_token.specs.declared.identifiers.AppId.{AppId}
 use Rattle.cv_token.specs.declared.identifiers.ActorId.{ActorId}
 use Rattle.cv_table.specs.Order.{actor_cmp}
 use Rattle.cv_kinds.specs.declared.network.ActorSpec.{ActorSpec}
-use Rattle.cv_kinds.specs.declared.network.Join.{Join}
+use Rattle.cv_kinds.specs.declared.network.Connection.{Connection}
 use Rattle.cv_kinds.specs.Net.{Net}
 use Rattle.cv_rules.specs.declared.attrs.NodeSpec.{NodeSpec}
 use Rattle.cv_rules.specs.declared.attrs.Attrs.{Attrs}
@@ -27,7 +27,7 @@ settled_if false live l = live
 settled_if true live l = map.insert live l.actor.id l
 
 -- the actors from number `actor` on that this node is the place of live here, at their start
-abbrev pub all_placed : AppId → List Join → ℕ → ℕ → List ActorSpec → List ℕ → map.FinMap actor_cmp LiveState → map.FinMap actor_cmp LiveState
+abbrev pub all_placed : AppId → List Connection → ℕ → ℕ → List ActorSpec → List ℕ → map.FinMap actor_cmp LiveState → map.FinMap actor_cmp LiveState
 all_placed app joins home actor [] at live = live
 all_placed app joins home actor (spec ∷ specs) [] live = live
 all_placed app joins home actor (spec ∷ specs) (node ∷ at) live =

@@ -13,7 +13,7 @@ ghost use Rattle.cv_state.specs.Steps.{LeadsTo, Refuses};
 use crate::state::State;
 use cv_actor::{LIMIT, Live};
 use cv_behave::Behave;
-use cv_kinds::{ActorSpec, Join, Network};
+use cv_kinds::{ActorSpec, Connection, Network};
 use cv_protocol::{Event, Location, StepRefusal};
 use cv_table::ActorTable;
 use cv_token::{ActorId, AppId, OutOfMemory, Text};
@@ -41,7 +41,7 @@ fn new_lives(
     alloc: Global,
     app: AppId,
     actors: &[ActorSpec],
-    joins: &[Join],
+    joins: &[Connection],
     now: u64,
 ) -> Result<VecDeque<Live>, OutOfMemory>
     requires few_actors { length actors.now ≤ 256 }

@@ -94,7 +94,9 @@ impl State {
             );
         }
         match self.hint(actor) {
-            Some(place) if attempt <= place.attempt => self.located(stamp, sender, actor, place),
+            Some(place) if attempt <= place.attempt => self.answer_located(
+                stamp, sender, actor, place,
+            ),
             _ => Sent::Nothing,
         }
     }

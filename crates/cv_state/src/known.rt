@@ -9,7 +9,7 @@ ghost use Rattle.cv_state.specs.Deploying.{deployed_known, learned};
 ghost use Rattle.cv_state.specs.Opening.{opened_known, own_count};
 
 use crate::joining::{count_readers, join_outs};
-use cv_kinds::{Join, Network};
+use cv_kinds::{Connection, Network};
 use cv_protocol::Application;
 use cv_queue::OutPort;
 use cv_rules::Attrs;
@@ -40,7 +40,7 @@ impl Model for Known {
 }
 
 /// The producers of the application's connections are known. There is room for them.
-fn join_all(producers: &mut ConnTable<ActorId>, app: AppId, joins: &[Join])
+fn join_all(producers: &mut ConnTable<ActorId>, app: AppId, joins: &[Connection])
     requires few { length joins.now ≤ 4096 }
     requires room { length joins.now ≤ producers.old.spare }
     ensures { producers.new.map ≡ all_joined app 0 joins.now producers.old.map }

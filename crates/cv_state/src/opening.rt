@@ -18,7 +18,7 @@ use cv_token::{ActorId, AppId, OutOfMemory};
 use std::alloc::{AllocError, Global};
 
 /// The actors whose place is that node, at their start.
-fn placed(
+fn start_placed(
     alloc: Global,
     app: AppId,
     net: &Network,
@@ -44,7 +44,7 @@ fn placed(
 }
 
 /// The hint of each actor at its place, by the attempt 0.
-fn located(alloc: Global, app: AppId, at: &[u16]) -> Result<ActorTable<Location>, OutOfMemory>
+fn hint_homes(alloc: Global, app: AppId, at: &[u16]) -> Result<ActorTable<Location>, OutOfMemory>
     requires few { length at.now ≤ 256 }
     ensures { IfOk result (λ hints. hints.map ≡ all_located app 0 at.now map.empty) }
 {
@@ -81,8 +81,8 @@ impl State {
         }
         let attrs = spec.attrs.copy(alloc)?;
         let known = Known::opened(alloc, spec.no, attrs, app, net)?;
-        let live = placed(alloc, app, net, at, spec.no)?;
-        let hints = located(alloc, app, at)?;
+        let live = start_placed(alloc, app, net, at, spec.no)?;
+        let hints = hint_homes(alloc, app, at)?;
         Ok(State {
             spec,
             stamp: 0,

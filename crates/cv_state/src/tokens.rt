@@ -64,7 +64,13 @@ impl State {
     }
 
     /// The sender is told where the actor is.
-    pub(crate) fn located(&self, stamp: u64, sender: u16, actor: ActorId, place: Location) -> Sent
+    pub(crate) fn answer_located(
+        &self,
+        stamp: u64,
+        sender: u16,
+        actor: ActorId,
+        place: Location,
+    ) -> Sent
         ensures { Does (located self.now stamp sender actor place) self.now result }
     {
         self.one(
@@ -80,7 +86,7 @@ impl State {
 
     /// The consumer is not here to take a token: nothing happens while it is frozen here or where it is not known where it
     /// is; else the sender is told where.
-    fn missed(&self, stamp: u64, sender: u16, actor: ActorId) -> Sent
+    fn answer_missed(&self, stamp: u64, sender: u16, actor: ActorId) -> Sent
         ensures { Does (token_missed self.now stamp sender actor (map.get self.now.moves.frozen actor)) self.now result }
     {
         if self.moves.is_frozen(actor) {
@@ -92,7 +98,7 @@ impl State {
         if place.node == self.spec.no {
             return Sent::Nothing;
         }
-        self.located(stamp, sender, actor, place)
+        self.answer_located(stamp, sender, actor, place)
     }
 
     /// A token comes: a consumer that lives here is offered it, and its answer is sent; else the sender is told where the
@@ -112,10 +118,10 @@ impl State {
         ensures err { OnErr result (self.new ≡ self.old) }
     {
         let Some(live) = self.live.get(actor) else {
-            return Ok(self.missed(stamp, sender, actor));
+            return Ok(self.answer_missed(stamp, sender, actor));
         };
         let Some(seat) = live.seat(conn) else {
-            return Ok(self.missed(stamp, sender, actor));
+            return Ok(self.answer_missed(stamp, sender, actor));
         };
         let Some((fed, producer)) = live.feed(seat) else {
             unreachable!()

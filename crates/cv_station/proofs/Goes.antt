@@ -12,7 +12,7 @@ use Rattle.cv_protocol.specs.declared.frame.Frame.{Frame}
 use Rattle.cv_protocol.specs.Journals.{got_frame}
 use Rattle.cv_state.specs.Steps.{frames_of}
 use Rattle.cv_node.specs.Counts.{firing_count_of, is_firing}
-use Rattle.cv_node.specs.Journalled.{Journalled, Steps}
+use Rattle.cv_node.specs.Journalled.{Journalled, MakesStep}
 use Rattle.cv_node.specs.Polls.{HasPolled}
 use Rattle.cv_actor.specs.declared.act.Polled.{Polled}
 use Rattle.cv_actor.specs.declared.act.Polled.TheVariants as polled
@@ -82,7 +82,7 @@ works_alone (event.Lose f) h = absurd (cc)
 works_alone (event.Deliver f) h = absurd (cc)
 
 -- one step is all
-pub does_step : (a b : Journalled) (e : Event) (sent : Sent) → Steps a e sent b → NodeDoes a (e ∷ []) (frames_of sent) b
+pub does_step : (a b : Journalled) (e : Event) (sent : Sent) → MakesStep a e sent b → NodeDoes a (e ∷ []) (frames_of sent) b
 does_step a b e sent steps = record {
   sent = sent;
   middle = b;
@@ -96,7 +96,7 @@ abbrev pub counts : Event → ℕ
 counts e = if is_firing e then 1 else 0
 
 -- one step of the node's own, with what it sends pushed
-pub goes_by : (most : ℕ) (s u : Station) (e : Event) (sent : Sent) → Steps s.node e sent u.node → is_work e ≡ true → Pushes (frames_of sent) s.peers.items u.peers.items → u.fired ≡ s.fired + counts e → u.quota ≡ s.quota → (s.fired ≤ s.quota → u.fired ≤ u.quota) → length s.node.entries < most → Goes most s false u
+pub goes_by : (most : ℕ) (s u : Station) (e : Event) (sent : Sent) → MakesStep s.node e sent u.node → is_work e ≡ true → Pushes (frames_of sent) s.peers.items u.peers.items → u.fired ≡ s.fired + counts e → u.quota ≡ s.quota → (s.fired ≤ s.quota → u.fired ≤ u.quota) → length s.node.entries < most → Goes most s false u
 goes_by most s u e sent steps work peers fired quota within room =
     let does = does_step s.node u.node e sent steps in
     let longer = does_length (e ∷ []) (frames_of sent) s.node u.node does in
@@ -119,7 +119,7 @@ goes_stepped most s u e did work none room =
     goes_by most s u e did.sent did.steps work did.peers (omega (arith, did.fired, not_counted e none)) did.quota (λ h. omega (arith, h, did.fired, did.quota)) room
 
 -- a poll of an actor whose outcome is that step
-pub goes_polled : (most : ℕ) (s t u : Station) (e : Event) → Goes most s false t → Steps t.node e sent.Nothing u.node → is_work e ≡ true → u.peers.items ≡ t.peers.items → u.fired ≡ t.fired + counts e → u.quota ≡ t.quota → (t.fired ≤ t.quota → u.fired ≤ u.quota) → length t.node.entries < most → Goes most s false u
+pub goes_polled : (most : ℕ) (s t u : Station) (e : Event) → Goes most s false t → MakesStep t.node e sent.Nothing u.node → is_work e ≡ true → u.peers.items ≡ t.peers.items → u.fired ≡ t.fired + counts e → u.quota ≡ t.quota → (t.fired ≤ t.quota → u.fired ≤ u.quota) → length t.node.entries < most → Goes most s false u
 goes_polled most s t u e before steps work peers fired quota within room =
     goes_then most false s t u before (goes_by most t u e sent.Nothing steps work (subst (λ (ps : List Peer). Pushes [] t.peers.items ps) (sym peers) (each_self (λ j p q. PeerWorks [] [] [] p q) t.peers.items (λ j p. peer_kept [] p))) fired quota within room)
 

@@ -8,7 +8,7 @@ use Rattle.cv_protocol.specs.declared.frame.Frame.{Frame}
 use Rattle.cv_protocol.specs.Journals.{got_frame}
 use Rattle.cv_state.specs.Steps.{frames_of}
 use Rattle.cv_node.specs.Counts.{firing_count_of}
-use Rattle.cv_node.specs.Journalled.{Journalled, Steps}
+use Rattle.cv_node.specs.Journalled.{Journalled, MakesStep}
 use Rattle.cv_link.specs.declared.plan.Taken.{Taken}
 use Rattle.cv_link.specs.declared.plan.Taken.TheVariants as told
 use Rattle.cv_link.specs.Plan.{PlanView, Tells, counted, frame_of}
@@ -91,7 +91,7 @@ pub record FirstDoes (Later : Journalled → List Frame → Type 0) (old : Journ
   pub sent : Sent
   pub middle : Journalled
   pub rest : List Frame
-  pub steps : Steps old e sent middle
+  pub steps : MakesStep old e sent middle
   pub later : Later middle rest
   pub all : frames ≡ frames_of sent ++ rest
 

@@ -6,7 +6,7 @@ use Rattle.cv_protocol.specs.declared.event.Sent.{Sent}
 use Rattle.cv_protocol.specs.declared.frame.Frame.{Frame}
 use Rattle.cv_state.specs.Steps.{frames_of}
 use Rattle.cv_node.specs.Counts.{firing_count_of, journal_length}
-use Rattle.cv_node.specs.Journalled.{Steps}
+use Rattle.cv_node.specs.Journalled.{MakesStep}
 use Rattle.cv_link.specs.declared.plan.Taken.{Taken}
 use Rattle.cv_link.specs.Plan.{frame_of}
 use Rattle.cv_station.specs.declared.station.Peer.{Peer}
@@ -40,7 +40,7 @@ TakesOne (Some told) p q = PeerWorks [] (frame_of told ∷ []) (told ∷ []) p q
 -- one step of the node, with the frames that it sends pushed
 pub record Stepped (s : Station) (e : Event) (u : Station) : Type 0 where
   pub sent : Sent
-  pub steps : Steps s.node e sent u.node
+  pub steps : MakesStep s.node e sent u.node
   pub peers : Pushes (frames_of sent) s.peers.items u.peers.items
   pub fired : u.fired ≡ s.fired
   pub quota : u.quota ≡ s.quota

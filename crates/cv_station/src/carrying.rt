@@ -20,7 +20,7 @@ impl Station {
     }
 
     /// How many of its tokens a reader needs no more: those that a consumer which lives here has acknowledged, or those that were sent.
-    fn served(&self, reader: &Reader) -> u64 {
+    fn count_served(&self, reader: &Reader) -> u64 {
         if self.node.live(reader.consumer).is_some() {
             reader.acked
         } else {
@@ -32,7 +32,7 @@ impl Station {
     fn unserved_at(&self, actor: ActorId, port: u8, place: u16) -> Option<Reader> {
         let out = self.node.live(actor)?.out(port)?;
         let reader = out.reader(place)?;
-        if self.served(&reader) < out.count(place) {
+        if self.count_served(&reader) < out.count(place) {
             Some(reader)
         } else {
             None

@@ -2,7 +2,7 @@
 
 use cv_flow::FlowKind;
 use cv_io::OpenGate;
-use cv_kinds::{ActorSpec, Join, Kind, Network};
+use cv_kinds::{ActorSpec, Connection, Kind, Network};
 use cv_link::{Item, LinkItems, Pair};
 use cv_node::Node;
 use cv_protocol::{Event, Sent};
@@ -18,7 +18,7 @@ const APP: AppId = AppId { node: 1, seq: 1 };
 
 const SINK: ActorId = ActorId { app: APP, actor: 1 };
 
-const JOIN: Join = Join {
+const JOIN: Connection = Connection {
     from: 0,
     out: 0,
     to: 1,

@@ -14,8 +14,8 @@ use Rattle.cv_syntax.specs.declared.tree.Literal.{Literal}
 use Rattle.cv_syntax.specs.declared.tree.Literal.TheVariants as literals
 use Rattle.cv_syntax.specs.declared.tree.KindName.TheVariants as kinds
 use Rattle.cv_syntax.specs.declared.tree.Value.TheVariants as values
-use Rattle.cv_syntax.specs.declared.tree.Source.{Source}
-use Rattle.cv_syntax.specs.declared.tree.Source.TheVariants as sources
+use Rattle.cv_syntax.specs.declared.tree.JoinSource.{JoinSource}
+use Rattle.cv_syntax.specs.declared.tree.JoinSource.TheVariants as sources
 use Rattle.cv_syntax.specs.declared.tree.Target.TheVariants as targets
 use Rattle.cv_syntax.specs.declared.tree.Statement.TheVariants as statements
 use Rattle.cv_syntax.specs.declared.tree.Factor.{Factor, the_lemmas}
@@ -202,7 +202,7 @@ aim_blind : Blind aim_aside aim_at
 unfolding aim_at
 aim_blind ws = aside_mapped same aim_aside _ _ (target_at (all_zeroed ws)) (target_at ws) (target_blind ws) (λ x. ap (λ at. record { at = at; target = x }) (place_zeroed ws))
 
-join_blind : (at place : ℕ) (source : Source) (ws : List Placed) → at ≡ 0 → join_at at source (all_zeroed ws) ≡ aside join_aside (join_at place source ws)
+join_blind : (at place : ℕ) (source : JoinSource) (ws : List Placed) → at ≡ 0 → join_at at source (all_zeroed ws) ≡ aside join_aside (join_at place source ws)
 unfolding join_at
 join_blind at place source ws e =
     aside_mapped (map aim_aside) join_aside _ _ (after marks.Greater (sep marks.Comma aim_at) (all_zeroed ws)) (after marks.Greater (sep marks.Comma aim_at) ws)

@@ -10,7 +10,7 @@ use Rattle.cv_readers.specs.declared.name.Name.{Name}
 use Rattle.cv_readers.specs.Reading.{Read, Reader, word_at, found_word, when, is_mark, name_in, name_at, too_deep, first_is, behind}
 use Rattle.cv_readers.specs.Combining.{mapped, closed, after, sep}
 use Rattle.cv_readers.specs.Slots.{Slot, placed, mark, opening, raise, sep_slots, SomeAll}
-use Rattle.cv_readers.proofs.Matching.{Leads}
+use Rattle.cv_readers.proofs.Matching.{BeginsWith}
 use Rattle.cv_readers.proofs.Promises.{never, Reads, some_word_reads}
 use Rattle.cv_readers.proofs.Changes.{Image, map_reads, rewhole}
 use Rattle.cv_readers.proofs.Choices.{Either, pick, pick_reads, Begun, Opens, deep_reads}
@@ -180,14 +180,14 @@ whole_of x (inr (inr f)) = ap is_whole (sym f.same) ∙ whole-Name f.from ∙ f.
 
 -- ---- first words
 
-leads : (p : Word → Bool) (b : Bool) (x y : Factor) (ss : List Slot) → x ≡ y → factor_slots x ≡ ss → Leads p b ss → Leads p b (factor_slots y)
-leads p b x y ss e f l = subst (Leads p b) (sym f ∙ ap factor_slots e) l
+leads : (p : Word → Bool) (b : Bool) (x y : Factor) (ss : List Slot) → x ≡ y → factor_slots x ≡ ss → BeginsWith p b ss → BeginsWith p b (factor_slots y)
+leads p b x y ss e f l = subst (BeginsWith p b) (sym f ∙ ap factor_slots e) l
 
-lift_leads : (x : Factor) → IsLift x → Leads lifts true (factor_slots x)
+lift_leads : (x : Factor) → IsLift x → BeginsWith lifts true (factor_slots x)
 lift_leads x (inl f) = leads lifts true (factors.Not f.from) x _ f.same (slots-Not f.from) refl
 lift_leads x (inr f) = leads lifts true (factors.Group f.from) x _ f.same (slots-Group f.from) refl
 
-flat_leads : (x : Factor) → IsFlat x → Leads lifts false (factor_slots x)
+flat_leads : (x : Factor) → IsFlat x → BeginsWith lifts false (factor_slots x)
 flat_leads x (inl f) = leads lifts false (factors.Match f.from) x _ f.same (slots-Match f.from) refl
 flat_leads x (inr f) = leads lifts false (factors.Name f.from) x _ f.same (slots-Name f.from) refl
 

@@ -10,7 +10,7 @@ use Rattle.cv_readers.proofs.Kepts.{Kept, Rises, kept_same, kept_bind, kept_mapp
 use Rattle.cv_syntax.specs.declared.tree.Literal.{Literal}
 use Rattle.cv_syntax.specs.declared.tree.Literal.TheVariants as literals
 use Rattle.cv_syntax.specs.declared.tree.Value.TheVariants as values
-use Rattle.cv_syntax.specs.declared.tree.Source.TheVariants as sources
+use Rattle.cv_syntax.specs.declared.tree.JoinSource.TheVariants as sources
 use Rattle.cv_syntax.specs.declared.tree.Statement.TheVariants as statements
 use Rattle.cv_syntax.specs.declared.tree.Factor.{Factor}
 use Rattle.cv_syntax.specs.declared.tree.Factor.TheVariants as factors

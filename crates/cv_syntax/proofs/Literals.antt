@@ -12,7 +12,7 @@ use Rattle.cv_lex.specs.declared.word.Placed.{Placed}
 use Rattle.cv_readers.specs.Reading.{Reader, word_at, found_word, is_mark, text_at, too_deep, behind}
 use Rattle.cv_readers.specs.Combining.{mapped, after, listed}
 use Rattle.cv_readers.specs.Slots.{Slot, just, mark, opening, raise, all_slots, sep_slots, listed_slots}
-use Rattle.cv_readers.proofs.Matching.{Leads}
+use Rattle.cv_readers.proofs.Matching.{BeginsWith}
 use Rattle.cv_readers.proofs.Promises.{never, Reads, word_reads}
 use Rattle.cv_readers.proofs.Chains.{chain}
 use Rattle.cv_readers.proofs.Changes.{Image, map_reads, rewhole}
@@ -198,26 +198,26 @@ shape x = subst (Either IsNest (Image form Any)) (roll-out-Literal x) (shape_of 
 
 -- ---- first words
 
-leads : (p : Word → Bool) (b : Bool) (x y : Literal) (ss : List Slot) → x ≡ y → literal_slots x ≡ ss → Leads p b ss → Leads p b (literal_slots y)
-leads p b x y ss e f l = subst (Leads p b) (sym f ∙ ap literal_slots e) l
+leads : (p : Word → Bool) (b : Bool) (x y : Literal) (ss : List Slot) → x ≡ y → literal_slots x ≡ ss → BeginsWith p b ss → BeginsWith p b (literal_slots y)
+leads p b x y ss e f l = subst (BeginsWith p b) (sym f ∙ ap literal_slots e) l
 
-scalar_leads : (p : Word → Bool) (b : Bool) → p (words.Reserved reserved.Null) ≡ b → p (words.Reserved reserved.True) ≡ b → p (words.Reserved reserved.False) ≡ b → ((n : ℤ) → p (words.Int n) ≡ b) → ((t : List ℕ) → p (words.Text t) ≡ b) → (s : Scalar) → Leads p b (slot s ∷ [])
+scalar_leads : (p : Word → Bool) (b : Bool) → p (words.Reserved reserved.Null) ≡ b → p (words.Reserved reserved.True) ≡ b → p (words.Reserved reserved.False) ≡ b → ((n : ℤ) → p (words.Int n) ≡ b) → ((t : List ℕ) → p (words.Text t) ≡ b) → (s : Scalar) → BeginsWith p b (slot s ∷ [])
 scalar_leads p b a c d i t null = a
 scalar_leads p b a c d i t (truth_of true) = c
 scalar_leads p b a c d i t (truth_of false) = d
 scalar_leads p b a c d i t (number n) = i n
 scalar_leads p b a c d i t (text s) = t s
 
-nest_leads : (p : Word → Bool) (b : Bool) → p (words.Mark marks.OpenBracket) ≡ b → p (words.Mark marks.OpenBrace) ≡ b → (x : Literal) → IsNest x → Leads p b (literal_slots x)
+nest_leads : (p : Word → Bool) (b : Bool) → p (words.Mark marks.OpenBracket) ≡ b → p (words.Mark marks.OpenBrace) ≡ b → (x : Literal) → IsNest x → BeginsWith p b (literal_slots x)
 nest_leads p b l m x (inl f) = leads p b (literals.List f.from) x _ f.same (slots-List f.from) l
 nest_leads p b l m x (inr f) = leads p b (literals.Dict f.from) x _ f.same (slots-Dict f.from) m
 
-leads_by : (p : Word → Bool) (b : Bool) → p (words.Reserved reserved.Null) ≡ b → p (words.Reserved reserved.True) ≡ b → p (words.Reserved reserved.False) ≡ b → ((n : ℤ) → p (words.Int n) ≡ b) → ((t : List ℕ) → p (words.Text t) ≡ b) → p (words.Mark marks.OpenBracket) ≡ b → p (words.Mark marks.OpenBrace) ≡ b → (x : Literal) → Either IsNest (Image form Any) x → Leads p b (literal_slots x)
+leads_by : (p : Word → Bool) (b : Bool) → p (words.Reserved reserved.Null) ≡ b → p (words.Reserved reserved.True) ≡ b → p (words.Reserved reserved.False) ≡ b → ((n : ℤ) → p (words.Int n) ≡ b) → ((t : List ℕ) → p (words.Text t) ≡ b) → p (words.Mark marks.OpenBracket) ≡ b → p (words.Mark marks.OpenBrace) ≡ b → (x : Literal) → Either IsNest (Image form Any) x → BeginsWith p b (literal_slots x)
 leads_by p b a c d i t l m x (inl f) = nest_leads p b l m x f
 leads_by p b a c d i t l m x (inr f) = leads p b (form f.from) x _ f.same (form_slots f.from) (scalar_leads p b a c d i t f.from)
 
 -- a test that only marks may pass, and no bracket that opens: no literal begins so
-pub literal_leads : (p : Word → Bool) (b : Bool) → p (words.Reserved reserved.Null) ≡ b → p (words.Reserved reserved.True) ≡ b → p (words.Reserved reserved.False) ≡ b → ((n : ℤ) → p (words.Int n) ≡ b) → ((t : List ℕ) → p (words.Text t) ≡ b) → p (words.Mark marks.OpenBracket) ≡ b → p (words.Mark marks.OpenBrace) ≡ b → (x : Literal) → Leads p b (literal_slots x)
+pub literal_leads : (p : Word → Bool) (b : Bool) → p (words.Reserved reserved.Null) ≡ b → p (words.Reserved reserved.True) ≡ b → p (words.Reserved reserved.False) ≡ b → ((n : ℤ) → p (words.Int n) ≡ b) → ((t : List ℕ) → p (words.Text t) ≡ b) → p (words.Mark marks.OpenBracket) ≡ b → p (words.Mark marks.OpenBrace) ≡ b → (x : Literal) → BeginsWith p b (literal_slots x)
 literal_leads p b a c d i t l m x = leads_by p b a c d i t l m x (shape x)
 
 -- ---- lists and dictionaries
@@ -261,7 +261,7 @@ nest_reads k literal reads =
 
 -- ---- literals
 
-scalar_not_open : (x : Literal) → Image form Any x → Leads opens false (literal_slots x)
+scalar_not_open : (x : Literal) → Image form Any x → BeginsWith opens false (literal_slots x)
 scalar_not_open x f = leads opens false (form f.from) x _ f.same (form_slots f.from) (scalar_leads opens false refl refl refl (λ n. refl) (λ t. refl) f.from)
 
 nest_opens : (x : Literal) → IsNest x → Opens (literal_slots x)

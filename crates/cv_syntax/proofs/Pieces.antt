@@ -10,7 +10,7 @@ use Rattle.cv_lex.specs.declared.word.Placed.{Placed}
 use Rattle.cv_readers.specs.Reading.{Read, Reader, ◌>>=◌, when, is_mark, is_reserved, bare_at, text_at, place_of, first_is, behind}
 use Rattle.cv_readers.specs.Combining.{mapped, closed, after, listed}
 use Rattle.cv_readers.specs.Slots.{Slot, just, mark, listed_slots}
-use Rattle.cv_readers.proofs.Matching.{Leads, leads_first}
+use Rattle.cv_readers.proofs.Matching.{BeginsWith, leads_first}
 use Rattle.cv_readers.proofs.Promises.{never, Reads, word_reads}
 use Rattle.cv_readers.proofs.Chains.{chain}
 use Rattle.cv_readers.proofs.Changes.{Image, map_reads, recast, rewhole}
@@ -56,7 +56,7 @@ pub pair_form : {X Y Z : Type 0} (A : Reader X) (B : Reader Y) (form : X → Y �
 pair_form {X} {Y} {Z} A B form ws = pair_by B form (A ws)
 
 -- two parts behind one another
-pub two_reads : {X Y : Type 0} (n : ℕ) (A : Reader X) (B : Reader Y) (spellX : X → List Slot) (spellY : Y → List Slot) (WholeX : X → Type 0) (WholeY : Y → Type 0) (contX : X → Word → Bool) (contY : Y → Word → Bool) → (eg : Y) → WholeY eg → ((x : X) (y : Y) → WholeX x → WholeY y → Leads (contX x) false (spellY y)) → Reads n A spellX WholeX never contX → Reads n B spellY WholeY never contY → Reads n (chain A (λ x ws. mapped (both x) (B ws))) (λ (q : X × Y). spellX q.0 ++ spellY q.1) (λ (q : X × Y). WholeX q.0 × WholeY q.1) never (λ (q : X × Y). contY q.1)
+pub two_reads : {X Y : Type 0} (n : ℕ) (A : Reader X) (B : Reader Y) (spellX : X → List Slot) (spellY : Y → List Slot) (WholeX : X → Type 0) (WholeY : Y → Type 0) (contX : X → Word → Bool) (contY : Y → Word → Bool) → (eg : Y) → WholeY eg → ((x : X) (y : Y) → WholeX x → WholeY y → BeginsWith (contX x) false (spellY y)) → Reads n A spellX WholeX never contX → Reads n B spellY WholeY never contY → Reads n (chain A (λ x ws. mapped (both x) (B ws))) (λ (q : X × Y). spellX q.0 ++ spellY q.1) (λ (q : X × Y). WholeX q.0 × WholeY q.1) never (λ (q : X × Y). contY q.1)
 two_reads {X} {Y} n A B spellX spellY WholeX WholeY contX contY eg fine apart a b =
     let C : Reader (X × Y) = chain A (λ x ws. mapped (both x) (B ws)) in
     rewhole n C C (λ (q : X × Y). spellX q.0 ++ spellY q.1) (λ (q : X × Y). Unit {0} × WholeX q.0 × WholeY q.1) (λ (q : X × Y). WholeX q.0 × WholeY q.1) never (λ (q : X × Y). contY q.1) (λ ws. refl) (λ q f. (f.1, f.2)) (λ q f. (tt, f.0, f.1))
@@ -98,7 +98,7 @@ kind_shape (kinds.Dotted a b) = inl (record { from = b; fine = tt; same = refl }
 tail_reads : (n : ℕ) (x : List ℕ) → Reads n (maybe (is_mark marks.Dot) (λ ws. mapped (kinds.Dotted x) (after marks.Dot bare_at ws)) (kinds.Plain x)) kind_tail (KindBehind x) never kind_cont
 tail_reads n x =
     maybe_reads n (is_mark marks.Dot) (λ ws. mapped (kinds.Dotted x) (after marks.Dot bare_at ws)) (kinds.Plain x) kind_tail (Image (kinds.Dotted x) Any) kind_cont refl refl
-    (λ k f. subst (λ z. Leads (is_mark marks.Dot) true (kind_tail z)) f.same refl)
+    (λ k f. subst (λ z. BeginsWith (is_mark marks.Dot) true (kind_tail z)) f.same refl)
     (map_reads n (after marks.Dot bare_at) (kinds.Dotted x) (λ b. mark marks.Dot ∷ bare_slots b) kind_tail Any never still kind_cont (λ b. refl) (λ b. refl) (after_reads n marks.Dot bare_at bare_slots Any still [] tt (bare_reads n)))
 
 kind_same : (p : List ℕ × List Placed) → kind_after p ≡ maybe (is_mark marks.Dot) (λ ws. mapped (kinds.Dotted p.0) (after marks.Dot bare_at ws)) (kinds.Plain p.0) p.1
@@ -140,8 +140,8 @@ target_shape targets.Voidport = inl (record { from = tt; fine = tt; same = refl 
 target_shape (targets.Own port) = inr (inl (record { from = port; fine = tt; same = refl }))
 target_shape (targets.Port actor port) = inr (inr (record { from = (actor, port); fine = (tt, tt); same = refl }))
 
-target_leads : (p : Word → Bool) (b : Bool) (x y : Target) → x ≡ y → Leads p b (target_slots x) → Leads p b (target_slots y)
-target_leads p b x y e l = subst (λ z. Leads p b (target_slots z)) e l
+target_leads : (p : Word → Bool) (b : Bool) (x y : Target) → x ≡ y → BeginsWith p b (target_slots x) → BeginsWith p b (target_slots y)
+target_leads p b x y e l = subst (λ z. BeginsWith p b (target_slots z)) e l
 
 port_reads : (n : ℕ) → Reads n (λ ws. bare_at ws >>= λ actor. mapped (λ port. targets.Port actor.0 port) (dot_name actor.1)) target_slots (Image port_of AnyPort) never still
 port_reads n =
@@ -151,7 +151,7 @@ port_reads n =
     (map_reads n pair port_of (λ (q : List ℕ × List ℕ). bare_slots q.0 ++ mark marks.Dot ∷ bare_slots q.1) target_slots AnyPort never still still (λ q. refl) (λ q. refl)
     (two_reads n bare_at dot_name bare_slots (λ b. mark marks.Dot ∷ bare_slots b) Any Any still still [] tt (λ x y f g. refl) (bare_reads n) (dot_reads n)))
 
-not_void : (t : Target) → Either (Image targets.Own Any) (Image port_of AnyPort) t → Leads (is_reserved reserved.Voidport) false (target_slots t)
+not_void : (t : Target) → Either (Image targets.Own Any) (Image port_of AnyPort) t → BeginsWith (is_reserved reserved.Voidport) false (target_slots t)
 not_void t (inl f) = target_leads (is_reserved reserved.Voidport) false (targets.Own f.from) t f.same refl
 not_void t (inr f) = target_leads (is_reserved reserved.Voidport) false (port_of f.from) t f.same refl
 

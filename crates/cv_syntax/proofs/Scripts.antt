@@ -11,7 +11,7 @@ use Rattle.cv_readers.specs.declared.name.Name.{Name}
 use Rattle.cv_readers.specs.Reading.{Read, Reader, ◌>>=◌, is_mark, is_reserved, name_at, reserved_at}
 use Rattle.cv_readers.specs.Combining.{mapped, after, many, sep, listed}
 use Rattle.cv_readers.specs.Slots.{Slot, just, placed, mark, all_slots, sep_slots, listed_slots, SomeAll}
-use Rattle.cv_readers.proofs.Matching.{Leads}
+use Rattle.cv_readers.proofs.Matching.{BeginsWith}
 use Rattle.cv_readers.proofs.Promises.{never, Reads}
 use Rattle.cv_readers.proofs.Chains.{chain}
 use Rattle.cv_readers.proofs.Changes.{Image, map_reads, recast, rewhole, earlier}
@@ -233,24 +233,24 @@ item_from (items.Rule r) f = inr (inr (inl (record { from = r; fine = f; same = 
 item_from (items.Apply a) f = inr (inr (inr (inl (record { from = a; fine = f; same = refl }))))
 item_from (items.Statement s) f = inr (inr (inr (inr (record { from = s; fine = f; same = refl }))))
 
-item_same : (p : Word → Bool) (b : Bool) (x y : Item) → x ≡ y → Leads p b (item_slots x) → Leads p b (item_slots y)
-item_same p b x y e l = subst (λ z. Leads p b (item_slots z)) e l
+item_same : (p : Word → Bool) (b : Bool) (x y : Item) → x ≡ y → BeginsWith p b (item_slots x) → BeginsWith p b (item_slots y)
+item_same p b x y e l = subst (λ z. BeginsWith p b (item_slots z)) e l
 
-reserved_not : (r : Reserved) → is_reserved r (words.Reserved reserved.Voidport) ≡ false → ((l : Literal) → Leads (is_reserved r) false (literal_slots l)) → (x : Item) → IsS x → Leads (is_reserved r) false (item_slots x)
+reserved_not : (r : Reserved) → is_reserved r (words.Reserved reserved.Voidport) ≡ false → ((l : Literal) → BeginsWith (is_reserved r) false (literal_slots l)) → (x : Item) → IsS x → BeginsWith (is_reserved r) false (item_slots x)
 reserved_not r void lit x f = item_same (is_reserved r) false (items.Statement f.from) x f.same (statement_leads (is_reserved r) false (λ t. refl) void refl lit f.from)
 
-not_c : (x : Item) → Either IsD (Either IsR (Either IsA IsS)) x → Leads (is_reserved reserved.Component) false (item_slots x)
+not_c : (x : Item) → Either IsD (Either IsR (Either IsA IsS)) x → BeginsWith (is_reserved reserved.Component) false (item_slots x)
 not_c x (inl f) = item_same (is_reserved reserved.Component) false (items.Define f.from) x f.same refl
 not_c x (inr (inl f)) = item_same (is_reserved reserved.Component) false (items.Rule f.from) x f.same refl
 not_c x (inr (inr (inl f))) = item_same (is_reserved reserved.Component) false (items.Apply f.from) x f.same refl
 not_c x (inr (inr (inr f))) = reserved_not reserved.Component refl (literal_leads (is_reserved reserved.Component) false refl refl refl (λ n. refl) (λ t. refl) refl refl) x f
 
-not_d : (x : Item) → Either IsR (Either IsA IsS) x → Leads (is_reserved reserved.Define) false (item_slots x)
+not_d : (x : Item) → Either IsR (Either IsA IsS) x → BeginsWith (is_reserved reserved.Define) false (item_slots x)
 not_d x (inl f) = item_same (is_reserved reserved.Define) false (items.Rule f.from) x f.same refl
 not_d x (inr (inl f)) = item_same (is_reserved reserved.Define) false (items.Apply f.from) x f.same refl
 not_d x (inr (inr f)) = reserved_not reserved.Define refl (literal_leads (is_reserved reserved.Define) false refl refl refl (λ n. refl) (λ t. refl) refl refl) x f
 
-not_r : (x : Item) → Either IsA IsS x → Leads (is_reserved reserved.Rule) false (item_slots x)
+not_r : (x : Item) → Either IsA IsS x → BeginsWith (is_reserved reserved.Rule) false (item_slots x)
 not_r x (inl f) = item_same (is_reserved reserved.Rule) false (items.Apply f.from) x f.same refl
 not_r x (inr f) = reserved_not reserved.Rule refl (literal_leads (is_reserved reserved.Rule) false refl refl refl (λ n. refl) (λ t. refl) refl refl) x f
 
@@ -281,27 +281,27 @@ item_reads n =
 -- ---- scripts
 
 -- a test that no first word of an item passes, or each does
-item_leads : (p : Word → Bool) (b : Bool) → p (words.Reserved reserved.Component) ≡ b → p (words.Reserved reserved.Define) ≡ b → p (words.Reserved reserved.Rule) ≡ b → p (words.Reserved reserved.Apply) ≡ b → ((s : Statement) → Leads p b (statement_slots s)) → (x : Item) → Leads p b (item_slots x)
+item_leads : (p : Word → Bool) (b : Bool) → p (words.Reserved reserved.Component) ≡ b → p (words.Reserved reserved.Define) ≡ b → p (words.Reserved reserved.Rule) ≡ b → p (words.Reserved reserved.Apply) ≡ b → ((s : Statement) → BeginsWith p b (statement_slots s)) → (x : Item) → BeginsWith p b (item_slots x)
 item_leads p b c d r a s (items.Component x) = c
 item_leads p b c d r a s (items.Define x) = d
 item_leads p b c d r a s (items.Rule x) = r
 item_leads p b c d r a s (items.Apply x) = a
 item_leads p b c d r a s (items.Statement x) = s x
 
-begins_none : (x : Item) → Leads never false (item_slots x)
+begins_none : (x : Item) → BeginsWith never false (item_slots x)
 begins_none = item_leads never false refl refl refl refl (statement_leads never false (λ t. refl) refl refl (literal_leads never false refl refl refl (λ n. refl) (λ t. refl) refl refl))
 
-begins_no_comma : (x : Item) → Leads comma false (item_slots x)
+begins_no_comma : (x : Item) → BeginsWith comma false (item_slots x)
 begins_no_comma = item_leads comma false refl refl refl refl (statement_leads comma false (λ t. refl) refl refl (literal_leads comma false refl refl refl (λ n. refl) (λ t. refl) refl refl))
 
-begins_no_term : (x : Item) → Leads terms_cont false (item_slots x)
+begins_no_term : (x : Item) → BeginsWith terms_cont false (item_slots x)
 begins_no_term = item_leads terms_cont false refl refl refl refl (statement_leads terms_cont false (λ t. refl) refl refl (literal_leads terms_cont false refl refl refl (λ n. refl) (λ t. refl) refl refl))
 
-statement_stops : (s : Statement) (y : Item) → Leads (statement_cont s) false (item_slots y)
+statement_stops : (s : Statement) (y : Item) → BeginsWith (statement_cont s) false (item_slots y)
 statement_stops (statements.Declare d) y = begins_none y
 statement_stops (statements.Join j) y = begins_no_comma y
 
-item_follows : (x y : Item) → Leads (item_cont x) false (item_slots y)
+item_follows : (x y : Item) → BeginsWith (item_cont x) false (item_slots y)
 item_follows (items.Component c) y = begins_none y
 item_follows (items.Define d) y = begins_none y
 item_follows (items.Rule r) y = begins_no_term y

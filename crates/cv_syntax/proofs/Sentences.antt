@@ -10,7 +10,7 @@ use Rattle.cv_readers.specs.declared.name.Name.{Name}
 use Rattle.cv_readers.specs.Reading.{Read, Reader, ◌>>=◌, is_mark, is_reserved, name_at, bare_at, place_of, first_is, behind}
 use Rattle.cv_readers.specs.Combining.{mapped, after, many, sep, listed}
 use Rattle.cv_readers.specs.Slots.{Slot, just, mark, place_first, all_slots, sep_slots, listed_slots, SomeAll}
-use Rattle.cv_readers.proofs.Matching.{Leads, leads_first}
+use Rattle.cv_readers.proofs.Matching.{BeginsWith, leads_first}
 use Rattle.cv_readers.proofs.Promises.{never, never_first, Reads, word_reads}
 use Rattle.cv_readers.proofs.Chains.{chain, then_reads}
 use Rattle.cv_readers.proofs.Changes.{Image, map_reads, recast, rewhole, earlier}
@@ -27,8 +27,8 @@ use Rattle.cv_syntax.specs.declared.tree.Arg.{Arg}
 use Rattle.cv_syntax.specs.declared.tree.KindName.{KindName}
 use Rattle.cv_syntax.specs.declared.tree.KindName.TheVariants as kinds
 use Rattle.cv_syntax.specs.declared.tree.Declare.{Declare}
-use Rattle.cv_syntax.specs.declared.tree.Source.{Source}
-use Rattle.cv_syntax.specs.declared.tree.Source.TheVariants as sources
+use Rattle.cv_syntax.specs.declared.tree.JoinSource.{JoinSource}
+use Rattle.cv_syntax.specs.declared.tree.JoinSource.TheVariants as sources
 use Rattle.cv_syntax.specs.declared.tree.Target.TheVariants as targets
 use Rattle.cv_syntax.specs.declared.tree.Aim.{Aim}
 use Rattle.cv_syntax.specs.declared.tree.Join.{Join}
@@ -58,10 +58,10 @@ value_shape (values.Fraction x) = inl (record { from = x; fine = tt; same = refl
 value_shape (values.Name x) = inr (inl (record { from = x; fine = tt; same = refl }))
 value_shape (values.Literal x) = inr (inr (record { from = x; fine = tt; same = refl }))
 
-value_leads : (p : Word → Bool) (b : Bool) (x y : Value) → x ≡ y → Leads p b (value_slots x) → Leads p b (value_slots y)
-value_leads p b x y e l = subst (λ z. Leads p b (value_slots z)) e l
+value_leads : (p : Word → Bool) (b : Bool) (x y : Value) → x ≡ y → BeginsWith p b (value_slots x) → BeginsWith p b (value_slots y)
+value_leads p b x y e l = subst (λ z. BeginsWith p b (value_slots z)) e l
 
-no_fraction : (v : Value) → Either (Image values.Name Any) (Image values.Literal Any) v → Leads is_fraction false (value_slots v)
+no_fraction : (v : Value) → Either (Image values.Name Any) (Image values.Literal Any) v → BeginsWith is_fraction false (value_slots v)
 no_fraction v (inl f) = value_leads is_fraction false (values.Name f.from) v f.same refl
 no_fraction v (inr f) = value_leads is_fraction false (values.Literal f.from) v f.same (literal_leads is_fraction false refl refl refl (λ n. refl) (λ t. refl) refl refl f.from)
 
@@ -130,7 +130,7 @@ declare_reads n name =
 abbrev pub comma : Word → Bool
 comma = either (is_mark marks.Comma) never
 
-abbrev join_of : ℕ → Source → List Aim → Join
+abbrev join_of : ℕ → JoinSource → List Aim → Join
 join_of at source targets = record { at = at; source = source; targets = targets }
 
 abbrev aims_slots : List Aim → List Slot
@@ -139,13 +139,13 @@ aims_slots aims = mark marks.Greater ∷ sep_slots marks.Comma aim_slots aims
 abbrev join_tail : Join → List Slot
 join_tail j = aims_slots j.targets
 
-abbrev JoinOf : ℕ → Source → Join → Type 0
+abbrev JoinOf : ℕ → JoinSource → Join → Type 0
 JoinOf at source = Image (join_of at source) (SomeAll AnyAim)
 
 abbrev an_aim : Aim
 an_aim = record { at = 0; target = targets.Voidport }
 
-join_reads : (n at : ℕ) (source : Source) → Reads n (join_at at source) join_tail (JoinOf at source) never (λ _. comma)
+join_reads : (n at : ℕ) (source : JoinSource) → Reads n (join_at at source) join_tail (JoinOf at source) never (λ _. comma)
 unfolding join_at
 join_reads n at source =
     map_reads n (after marks.Greater (sep marks.Comma aim_at)) (join_of at source) aims_slots join_tail (SomeAll AnyAim) never (λ _. comma) (λ _. comma) (λ x. refl) (λ x. refl)
@@ -154,39 +154,39 @@ join_reads n at source =
 
 -- ---- sources that begin with a name
 
-abbrev source_tail : Source → List Slot
+abbrev source_tail : JoinSource → List Slot
 source_tail sources.Voidport = []
 source_tail (sources.Own port) = []
 source_tail (sources.Port actor port) = mark marks.Dot ∷ bare_slots port
 source_tail (sources.Name name) = []
 source_tail (sources.Literal literal) = []
 
-abbrev port_cont : Source → Word → Bool
+abbrev port_cont : JoinSource → Word → Bool
 port_cont sources.Voidport = never
 port_cont (sources.Own port) = never
 port_cont (sources.Port actor port) = never
 port_cont (sources.Name name) = is_mark marks.Dot
 port_cont (sources.Literal literal) = never
 
-port_stops : (s : Source) → port_cont s (words.Mark marks.Greater) ≡ false
+port_stops : (s : JoinSource) → port_cont s (words.Mark marks.Greater) ≡ false
 port_stops sources.Voidport = refl
 port_stops (sources.Own port) = refl
 port_stops (sources.Port actor port) = refl
 port_stops (sources.Name name) = refl
 port_stops (sources.Literal literal) = refl
 
-abbrev PortOf : Name → Source → Type 0
+abbrev PortOf : Name → JoinSource → Type 0
 PortOf actor = Either (Image (sources.Port actor.text) Any) (λ s. sources.Name actor.text ≡ s)
 
 port_reads : (n : ℕ) (actor : Name) → Reads n (port_at actor) source_tail (PortOf actor) never port_cont
 unfolding port_at
 port_reads n actor =
-    let A : Reader Source = λ ws. mapped (sources.Port actor.text) (after marks.Dot bare_at ws) in
-    let A' : Reader Source = λ ws. mapped (sources.Port actor.text) (bare_at (behind ws)) in
+    let A : Reader JoinSource = λ ws. mapped (sources.Port actor.text) (after marks.Dot bare_at ws) in
+    let A' : Reader JoinSource = λ ws. mapped (sources.Port actor.text) (bare_at (behind ws)) in
     rewhole n (maybe (is_mark marks.Dot) A (sources.Name actor.text)) (port_at actor) source_tail (PortOf actor) (PortOf actor) never port_cont
     (λ ws. same_pick (is_mark marks.Dot) A' A (λ ts. Ok (sources.Name actor.text, ts)) (λ ts e. ap (mapped (sources.Port actor.text)) (sym (after_mark marks.Dot bare_at ts e))) ws) (λ x f. f) (λ x f. f)
     (maybe_reads n (is_mark marks.Dot) A (sources.Name actor.text) source_tail (Image (sources.Port actor.text) Any) port_cont refl refl
-    (λ s f. subst (λ z. Leads (is_mark marks.Dot) true (source_tail z)) f.same refl)
+    (λ s f. subst (λ z. BeginsWith (is_mark marks.Dot) true (source_tail z)) f.same refl)
     (map_reads n (after marks.Dot bare_at) (sources.Port actor.text) (λ b. mark marks.Dot ∷ bare_slots b) source_tail Any never still port_cont (λ b. refl) (λ b. refl) (after_reads n marks.Dot bare_at bare_slots Any still [] tt (bare_reads n))))
 
 -- ---- statements, behind a name
@@ -215,15 +215,15 @@ named_join_reads n name =
       apart = λ s j front rest f g m t. leads_first (port_cont s) false (join_tail j) front rest (port_stops s) m;
     })
 
-join_mapped : (at : ℕ) (a : Read Source) → (a >>= λ s. mapped statements.Join (join_at at s.0 s.1)) ≡ mapped statements.Join (a >>= λ s. join_at at s.0 s.1)
+join_mapped : (at : ℕ) (a : Read JoinSource) → (a >>= λ s. mapped statements.Join (join_at at s.0 s.1)) ≡ mapped statements.Join (a >>= λ s. join_at at s.0 s.1)
 join_mapped at (Ok p) = refl
 join_mapped at (Err miss) = refl
 
-lead_by : (name : Name) (s : Source) (aims : List Aim) → PortOf name s → Leads (is_mark marks.Colon) false (source_tail s ++ aims_slots aims)
-lead_by name s aims (inl f) = subst (λ z. Leads (is_mark marks.Colon) false (source_tail z ++ aims_slots aims)) f.same refl
-lead_by name s aims (inr f) = subst (λ z. Leads (is_mark marks.Colon) false (source_tail z ++ aims_slots aims)) f refl
+lead_by : (name : Name) (s : JoinSource) (aims : List Aim) → PortOf name s → BeginsWith (is_mark marks.Colon) false (source_tail s ++ aims_slots aims)
+lead_by name s aims (inl f) = subst (λ z. BeginsWith (is_mark marks.Colon) false (source_tail z ++ aims_slots aims)) f.same refl
+lead_by name s aims (inr f) = subst (λ z. BeginsWith (is_mark marks.Colon) false (source_tail z ++ aims_slots aims)) f refl
 
-named_lead : (name : Name) (j : Join) → NamedJoin name j → Leads (is_mark marks.Colon) false (source_tail j.source ++ join_tail j)
+named_lead : (name : Name) (j : Join) → NamedJoin name j → BeginsWith (is_mark marks.Colon) false (source_tail j.source ++ join_tail j)
 named_lead name j f = lead_by name j.source j.targets f.0
 
 named_reads : (n : ℕ) (name : Name) → Reads n (named_at n name) statement_tail (Named name) never statement_cont
@@ -240,39 +240,39 @@ named_reads n name =
     (map_reads n (after marks.Colon (declare_at n name)) statements.Declare (λ d. mark marks.Colon ∷ declare_tail d) statement_tail (λ d. name ≡ d.name) never still statement_cont (λ d. refl) (λ d. refl)
     (after_reads n marks.Colon (declare_at n name) declare_tail (λ d. name ≡ d.name) still (declare_of name (kinds.Plain []) []) refl (declare_reads n name)))
     (map_reads n (chain (port_at name) (λ s. join_at name.at s)) statements.Join (λ j. source_tail j.source ++ join_tail j) statement_tail (NamedJoin name) never (λ _. comma) statement_cont (λ j. refl) (λ j. refl) (named_join_reads n name))
-    (λ s f. subst (λ z. Leads (is_mark marks.Colon) true (statement_tail z)) f.same refl)
-    (λ s f. subst (λ z. Leads (is_mark marks.Colon) false (statement_tail z)) f.same (named_lead name f.from f.fine)))
+    (λ s f. subst (λ z. BeginsWith (is_mark marks.Colon) true (statement_tail z)) f.same refl)
+    (λ s f. subst (λ z. BeginsWith (is_mark marks.Colon) false (statement_tail z)) f.same (named_lead name f.from f.fine)))
 
 -- ---- sources that begin with no name
 
-abbrev free_slots : Source → List Slot
+abbrev free_slots : JoinSource → List Slot
 free_slots sources.Voidport = just (words.Reserved reserved.Voidport) ∷ []
 free_slots (sources.Own port) = mark marks.Dot ∷ bare_slots port
 free_slots (sources.Port actor port) = []
 free_slots (sources.Name name) = []
 free_slots (sources.Literal literal) = literal_slots literal
 
-abbrev nowhere : Unit {0} → Source
+abbrev nowhere : Unit {0} → JoinSource
 nowhere u = sources.Voidport
 
-abbrev IsFree : Source → Type 0
+abbrev IsFree : JoinSource → Type 0
 IsFree = Either (Image nowhere Any) (Either (Image sources.Own Any) (Image sources.Literal Any))
 
-free_leads : (p : Word → Bool) (b : Bool) (x y : Source) → x ≡ y → Leads p b (free_slots x) → Leads p b (free_slots y)
-free_leads p b x y e l = subst (λ z. Leads p b (free_slots z)) e l
+free_leads : (p : Word → Bool) (b : Bool) (x y : JoinSource) → x ≡ y → BeginsWith p b (free_slots x) → BeginsWith p b (free_slots y)
+free_leads p b x y e l = subst (λ z. BeginsWith p b (free_slots z)) e l
 
-no_void : (s : Source) → Either (Image sources.Own Any) (Image sources.Literal Any) s → Leads (is_reserved reserved.Voidport) false (free_slots s)
+no_void : (s : JoinSource) → Either (Image sources.Own Any) (Image sources.Literal Any) s → BeginsWith (is_reserved reserved.Voidport) false (free_slots s)
 no_void s (inl f) = free_leads (is_reserved reserved.Voidport) false (sources.Own f.from) s f.same refl
 no_void s (inr f) = free_leads (is_reserved reserved.Voidport) false (sources.Literal f.from) s f.same (literal_leads (is_reserved reserved.Voidport) false refl refl refl (λ n. refl) (λ t. refl) refl refl f.from)
 
 source_reads : (n : ℕ) → Reads n (source_at n) free_slots IsFree never still
 unfolding source_at
 source_reads n =
-    let V : Reader Source = λ ws. mapped nowhere (reserved_word reserved.Voidport ws) in
-    let V' : Reader Source = λ ws. Ok (sources.Voidport, behind ws) in
-    let O : Reader Source = λ ws. mapped sources.Own (after marks.Dot bare_at ws) in
-    let O' : Reader Source = λ ws. mapped sources.Own (bare_at (behind ws)) in
-    let L : Reader Source = λ ws. mapped sources.Literal (literal_at n ws) in
+    let V : Reader JoinSource = λ ws. mapped nowhere (reserved_word reserved.Voidport ws) in
+    let V' : Reader JoinSource = λ ws. Ok (sources.Voidport, behind ws) in
+    let O : Reader JoinSource = λ ws. mapped sources.Own (after marks.Dot bare_at ws) in
+    let O' : Reader JoinSource = λ ws. mapped sources.Own (bare_at (behind ws)) in
+    let L : Reader JoinSource = λ ws. mapped sources.Literal (literal_at n ws) in
     rewhole n (pick (is_reserved reserved.Voidport) V (pick (is_mark marks.Dot) O L)) (source_at n) free_slots IsFree IsFree never still
     (λ ws. same_pick (is_reserved reserved.Voidport) V' V (pick (is_mark marks.Dot) O' L) (λ ts e. sym (ap (mapped nowhere) (reserved_first reserved.Voidport ts e))) ws
     ∙ ap (λ z. cond (first_is (is_reserved reserved.Voidport) ws) (V ws) z) (same_pick (is_mark marks.Dot) O' O L (λ ts e. ap (mapped sources.Own) (sym (after_mark marks.Dot bare_at ts e))) ws)) (λ x f. f) (λ x f. f)
@@ -285,14 +285,14 @@ source_reads n =
     (λ s f. free_leads (is_mark marks.Dot) false (sources.Literal f.from) s f.same (literal_leads (is_mark marks.Dot) false refl refl refl (λ n. refl) (λ t. refl) refl refl f.from)))
     (λ s f. free_leads (is_reserved reserved.Voidport) true sources.Voidport s f.same refl) no_void)
 
-free_unplaced : (s : Source) → IsFree s → Unplaced (free_slots s)
+free_unplaced : (s : JoinSource) → IsFree s → Unplaced (free_slots s)
 free_unplaced s (inl f) = subst (λ z. Unplaced (free_slots z)) f.same refl
 free_unplaced s (inr (inl f)) = subst (λ z. Unplaced (free_slots z)) f.same refl
 free_unplaced s (inr (inr f)) = subst (λ z. Unplaced (free_slots z)) f.same (literal_unplaced f.from)
 
 -- ---- statements
 
-abbrev source_name : Source → List ℕ
+abbrev source_name : JoinSource → List ℕ
 source_name sources.Voidport = []
 source_name (sources.Own port) = []
 source_name (sources.Port actor port) = actor
@@ -312,7 +312,7 @@ FreeJoin j = IsFree j.source × JoinOf j.at j.source j
 abbrev FreeStatement : Statement → Type 0
 FreeStatement = Image statements.Join FreeJoin
 
-port_name : (name : Name) (at : ℕ) (s : Source) → PortOf name s → at ≡ name.at → record { text = source_name s; at = at } ≡ name
+port_name : (name : Name) (at : ℕ) (s : JoinSource) → PortOf name s → at ≡ name.at → record { text = source_name s; at = at } ≡ name
 port_name name at s (inl f) e = ap₂ (λ (t : List ℕ) (a : ℕ). record { text = t; at = a }) (ap source_name (sym f.same)) e
 port_name name at s (inr f) e = ap₂ (λ (t : List ℕ) (a : ℕ). record { text = t; at = a }) (ap source_name (sym f)) e
 
@@ -320,7 +320,7 @@ named_got : (name : Name) (s : Statement) → Named name s → name_of s ≡ nam
 named_got name s (inl f) = ap name_of (sym f.same) ∙ sym f.fine
 named_got name s (inr f) = ap name_of (sym f.same) ∙ port_name name f.from.at f.from.source f.fine.0 (ap (λ z. z.at) (sym f.fine.1.same))
 
-port_words_by : (name : Name) (at : ℕ) (s : Source) (aims : List Aim) → PortOf name s → name_slots (record { text = source_name s; at = at }) ++ (source_tail s ++ aims_slots aims) ≡ source_slots at s ++ aims_slots aims
+port_words_by : (name : Name) (at : ℕ) (s : JoinSource) (aims : List Aim) → PortOf name s → name_slots (record { text = source_name s; at = at }) ++ (source_tail s ++ aims_slots aims) ≡ source_slots at s ++ aims_slots aims
 port_words_by name at s aims (inl f) = subst (λ z. name_slots (record { text = source_name z; at = at }) ++ (source_tail z ++ aims_slots aims) ≡ source_slots at z ++ aims_slots aims) f.same refl
 port_words_by name at s aims (inr f) = subst (λ z. name_slots (record { text = source_name z; at = at }) ++ (source_tail z ++ aims_slots aims) ≡ source_slots at z ++ aims_slots aims) f refl
 
@@ -334,7 +334,7 @@ named_words (statements.Join j) (u, inr f) =
     let same : f.from ≡ j = (let e : statements.Join f.from ≡ statements.Join j = f.same in cc) in
     port_words (name_of (statements.Join j)) j (subst (λ z. PortOf (name_of (statements.Join j)) z.source) same f.fine.0)
 
-free_words_by : (at : ℕ) (s : Source) (aims : List Aim) → IsFree s → place_first at (free_slots s) ++ aims_slots aims ≡ source_slots at s ++ aims_slots aims
+free_words_by : (at : ℕ) (s : JoinSource) (aims : List Aim) → IsFree s → place_first at (free_slots s) ++ aims_slots aims ≡ source_slots at s ++ aims_slots aims
 free_words_by at s aims (inl f) = subst (λ z. place_first at (free_slots z) ++ aims_slots aims ≡ source_slots at z ++ aims_slots aims) f.same refl
 free_words_by at s aims (inr (inl f)) = subst (λ z. place_first at (free_slots z) ++ aims_slots aims ≡ source_slots at z ++ aims_slots aims) f.same refl
 free_words_by at s aims (inr (inr f)) = subst (λ z. place_first at (free_slots z) ++ aims_slots aims ≡ source_slots at z ++ aims_slots aims) f.same refl
@@ -359,27 +359,27 @@ free_join_reads n =
       apart = λ q j front rest f g m t. never_first (front ++ rest);
     }))
 
-abbrev behind_free : Read (ℕ × Source) → Read Join
+abbrev behind_free : Read (ℕ × JoinSource) → Read Join
 behind_free a = a >>= λ q. join_at q.0.0 q.0.1 q.1
 
-free_same : (ws : List Placed) (a : Read Source) → (a >>= λ s. mapped statements.Join (join_at (place_of ws) s.0 s.1)) ≡ mapped statements.Join (behind_free (mapped (λ (s : Source). (place_of ws, s)) a))
+free_same : (ws : List Placed) (a : Read JoinSource) → (a >>= λ s. mapped statements.Join (join_at (place_of ws) s.0 s.1)) ≡ mapped statements.Join (behind_free (mapped (λ (s : JoinSource). (place_of ws, s)) a))
 free_same ws (Ok p) = refl
 free_same ws (Err miss) = refl
 
-named_begins : (s : Statement) → IsNamed s → Leads is_any_name true (statement_slots s)
-named_begins s f = subst (Leads is_any_name true) (named_words s f) refl
+named_begins : (s : Statement) → IsNamed s → BeginsWith is_any_name true (statement_slots s)
+named_begins s f = subst (BeginsWith is_any_name true) (named_words s f) refl
 
-place_leads : (p : Word → Bool) (b : Bool) (at : ℕ) (ss : List Slot) → Leads p b ss → Leads p b (place_first at ss)
+place_leads : (p : Word → Bool) (b : Bool) (at : ℕ) (ss : List Slot) → BeginsWith p b ss → BeginsWith p b (place_first at ss)
 place_leads p b at [] l = l
 place_leads p b at (s ∷ ss) l = l
 
-free_begins_by : (at : ℕ) (s : Source) (aims : List Aim) → IsFree s → Leads is_any_name false (source_slots at s ++ aims_slots aims)
-free_begins_by at s aims (inl f) = subst (λ z. Leads is_any_name false (source_slots at z ++ aims_slots aims)) f.same refl
-free_begins_by at s aims (inr (inl f)) = subst (λ z. Leads is_any_name false (source_slots at z ++ aims_slots aims)) f.same refl
-free_begins_by at s aims (inr (inr f)) = subst (λ z. Leads is_any_name false (source_slots at z ++ aims_slots aims)) f.same (leads_append is_any_name false (place_first at (literal_slots f.from)) (aims_slots aims) (place_leads is_any_name false at (literal_slots f.from) (literal_leads is_any_name false refl refl refl (λ n. refl) (λ t. refl) refl refl f.from)))
+free_begins_by : (at : ℕ) (s : JoinSource) (aims : List Aim) → IsFree s → BeginsWith is_any_name false (source_slots at s ++ aims_slots aims)
+free_begins_by at s aims (inl f) = subst (λ z. BeginsWith is_any_name false (source_slots at z ++ aims_slots aims)) f.same refl
+free_begins_by at s aims (inr (inl f)) = subst (λ z. BeginsWith is_any_name false (source_slots at z ++ aims_slots aims)) f.same refl
+free_begins_by at s aims (inr (inr f)) = subst (λ z. BeginsWith is_any_name false (source_slots at z ++ aims_slots aims)) f.same (leads_append is_any_name false (place_first at (literal_slots f.from)) (aims_slots aims) (place_leads is_any_name false at (literal_slots f.from) (literal_leads is_any_name false refl refl refl (λ n. refl) (λ t. refl) refl refl f.from)))
 
-free_begins : (s : Statement) → FreeStatement s → Leads is_any_name false (statement_slots s)
-free_begins s f = subst (λ z. Leads is_any_name false (statement_slots z)) f.same (free_begins_by f.from.at f.from.source f.from.targets f.fine.0)
+free_begins : (s : Statement) → FreeStatement s → BeginsWith is_any_name false (statement_slots s)
+free_begins s f = subst (λ z. BeginsWith is_any_name false (statement_slots z)) f.same (free_begins_by f.from.at f.from.source f.from.targets f.fine.0)
 
 statement_to : (s : Statement) → Either IsNamed FreeStatement s → WholeStatement s
 statement_to (statements.Declare d) f = tt
@@ -391,7 +391,7 @@ statement_to (statements.Join j) (inr f) =
     let same : f.from ≡ j = (let e : statements.Join f.from ≡ statements.Join j = f.same in cc) in
     subst (SomeAll AnyAim) (ap (λ z. z.targets) f.fine.1.same ∙ ap (λ z. z.targets) same) f.fine.1.fine
 
-join_shape : (at : ℕ) (s : Source) (aims : List Aim) → SomeAll AnyAim aims → Either IsNamed FreeStatement (statements.Join (join_of at s aims))
+join_shape : (at : ℕ) (s : JoinSource) (aims : List Aim) → SomeAll AnyAim aims → Either IsNamed FreeStatement (statements.Join (join_of at s aims))
 join_shape at sources.Voidport aims f = inr (record { from = join_of at sources.Voidport aims; fine = (inl (record { from = tt; fine = tt; same = refl }), record { from = aims; fine = f; same = refl }); same = refl })
 join_shape at (sources.Own port) aims f = inr (record { from = join_of at (sources.Own port) aims; fine = (inr (inl (record { from = port; fine = tt; same = refl })), record { from = aims; fine = f; same = refl }); same = refl })
 join_shape at (sources.Port actor port) aims f = inl (tt, inr (record { from = join_of at (sources.Port actor port) aims; fine = (inl (record { from = port; fine = tt; same = refl }), record { from = aims; fine = f; same = refl }); same = refl }))
@@ -414,7 +414,7 @@ statement_reads n =
 
 -- ---- bodies
 
-source_leads : (p : Word → Bool) (b : Bool) → ((t : List ℕ) → p (words.Name t) ≡ b) → p (words.Reserved reserved.Voidport) ≡ b → p (words.Mark marks.Dot) ≡ b → ((l : Literal) → Leads p b (literal_slots l)) → (at : ℕ) (s : Source) (aims : List Aim) → Leads p b (source_slots at s ++ aims_slots aims)
+source_leads : (p : Word → Bool) (b : Bool) → ((t : List ℕ) → p (words.Name t) ≡ b) → p (words.Reserved reserved.Voidport) ≡ b → p (words.Mark marks.Dot) ≡ b → ((l : Literal) → BeginsWith p b (literal_slots l)) → (at : ℕ) (s : JoinSource) (aims : List Aim) → BeginsWith p b (source_slots at s ++ aims_slots aims)
 source_leads p b name void dot lit at sources.Voidport aims = void
 source_leads p b name void dot lit at (sources.Own port) aims = dot
 source_leads p b name void dot lit at (sources.Port actor port) aims = name actor
@@ -422,14 +422,14 @@ source_leads p b name void dot lit at (sources.Name text) aims = name text
 source_leads p b name void dot lit at (sources.Literal literal) aims = leads_append p b (place_first at (literal_slots literal)) (aims_slots aims) (place_leads p b at (literal_slots literal) (lit literal))
 
 -- what begins no literal and no name begins no statement
-pub statement_leads : (p : Word → Bool) (b : Bool) → ((t : List ℕ) → p (words.Name t) ≡ b) → p (words.Reserved reserved.Voidport) ≡ b → p (words.Mark marks.Dot) ≡ b → ((l : Literal) → Leads p b (literal_slots l)) → (s : Statement) → Leads p b (statement_slots s)
+pub statement_leads : (p : Word → Bool) (b : Bool) → ((t : List ℕ) → p (words.Name t) ≡ b) → p (words.Reserved reserved.Voidport) ≡ b → p (words.Mark marks.Dot) ≡ b → ((l : Literal) → BeginsWith p b (literal_slots l)) → (s : Statement) → BeginsWith p b (statement_slots s)
 statement_leads p b name void dot lit (statements.Declare d) = name d.name.text
 statement_leads p b name void dot lit (statements.Join j) = source_leads p b name void dot lit j.at j.source j.targets
 
 abbrev a_statement : Statement
 a_statement = statements.Declare (declare_of no_name (kinds.Plain []) [])
 
-statement_follows : (x y : Statement) → Leads (statement_cont x) false (statement_slots y)
+statement_follows : (x y : Statement) → BeginsWith (statement_cont x) false (statement_slots y)
 statement_follows (statements.Declare d) y = statement_leads never false (λ t. refl) refl refl (literal_leads never false refl refl refl (λ n. refl) (λ t. refl) refl refl) y
 statement_follows (statements.Join j) y = statement_leads comma false (λ t. refl) refl refl (literal_leads comma false refl refl refl (λ n. refl) (λ t. refl) refl refl) y
 

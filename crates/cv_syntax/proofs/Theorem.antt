@@ -17,7 +17,7 @@ use Rattle.cv_syntax.specs.declared.fault.ParseFault.TheVariants as faults
 use Rattle.cv_syntax.specs.Whole.{most_levels, items_at, is_anything}
 use Rattle.cv_syntax.specs.Spelling.{item_slots, script_slots, WholeItem}
 use Rattle.cv_syntax.specs.Parsing.{place_or, place_left, fault_of, answer_of, parsed, Answers}
-use Rattle.cv_syntax.specs.Grammar.{Spells, Begins, BeginsAny, first_place, IsUnexpected, IsTooDeep, HasFault, IsFault}
+use Rattle.cv_syntax.specs.Grammar.{SpellsTree, Begins, BeginsAny, first_place, IsUnexpected, IsTooDeep, HasFault, IsFault}
 use Rattle.cv_syntax.proofs.Scripts.{items_reads}
 use Rattle.cv_syntax.proofs.Levels.{rises_items}
 use Rattle.cv_syntax.proofs.Uniqueness.{spelled_whole, one_fault}
@@ -28,32 +28,32 @@ no_rest : (rest : List Placed) → first_is (either is_anything never) rest ≡ 
 no_rest [] e = refl
 no_rest (w ∷ rest) e = cc
 
-found_by : (end : ℕ) (ws : List Placed) (script : Script) (a : Read (List Item)) → items_at most_levels ws ≡ a → answer_of end ws a ≡ Ok script → Spells ws script
+found_by : (end : ℕ) (ws : List Placed) (script : Script) (a : Read (List Item)) → items_at most_levels ws ≡ a → answer_of end ws a ≡ Ok script → SpellsTree ws script
 found_by end ws script (Ok p) e r =
     let same : record { items = p.0 } ≡ script = cc in
     let t = (items_reads most_levels).takes ws p.0 p.1 (never_first ws) e in
     let all = t.whole ∙ ap (λ z. t.front ++ z) (no_rest p.1 t.stops) ∙ append-nil t.front in
-    subst (Spells ws) same (record { whole = t.fine; low = t.low; fits = subst (Matches (all_slots item_slots p.0)) (sym all) t.fits })
+    subst (SpellsTree ws) same (record { whole = t.fine; low = t.low; fits = subst (Matches (all_slots item_slots p.0)) (sym all) t.fits })
 found_by end ws script (Err miss) e r = cc
 
-pub found_of : (end : ℕ) (ws : List Placed) (r : Result Script ParseFault) → Answers r (parsed end ws) → IfOk r (λ script. Spells ws script)
+pub found_of : (end : ℕ) (ws : List Placed) (r : Result Script ParseFault) → Answers r (parsed end ws) → IfOk r (λ script. SpellsTree ws script)
 found_of end ws (Ok script) e = found_by end ws script (items_at most_levels ws) refl e
 found_of end ws (Err fault) e = tt
 
 -- ---- only
 
-pub read_again : (ws : List Placed) (script : Script) → Spells ws script → items_at most_levels ws ≡ Ok (script.items, [])
+pub read_again : (ws : List Placed) (script : Script) → SpellsTree ws script → items_at most_levels ws ≡ Ok (script.items, [])
 read_again ws script s =
     ap (items_at most_levels) (sym (append-nil ws)) ∙ (items_reads most_levels).again script.items ws [] s.whole s.low s.fits refl
 
-pub only_of : (end : ℕ) (ws : List Placed) (r : Result Script ParseFault) → Answers r (parsed end ws) → (script : Script) → Spells ws script → Answers r (Ok script)
+pub only_of : (end : ℕ) (ws : List Placed) (r : Result Script ParseFault) → Answers r (parsed end ws) → (script : Script) → SpellsTree ws script → Answers r (Ok script)
 only_of end ws r e script s = subst (Answers r) (ap (answer_of end ws) (read_again ws script s)) e
 
 ok_items : {X : Type 0} (x y : X) (ws : List Placed) (a : Read X) → a ≡ Ok (x, ws) → a ≡ Ok (y, ws) → x ≡ y
 ok_items x y ws a e f = read_same x y ws ws (sym e ∙ f)
 
 -- words spell one script at most
-pub one_script : (ws : List Placed) (a b : Script) → Spells ws a → Spells ws b → a ≡ b
+pub one_script : (ws : List Placed) (a b : Script) → SpellsTree ws a → SpellsTree ws b → a ≡ b
 one_script ws a b s t =
     ap (λ z. record { items = z }) (ok_items a.items b.items [] (items_at most_levels ws) (read_again ws a s) (read_again ws b t))
 

@@ -8,7 +8,7 @@ use Rattle.cv_syntax.specs.declared.fault.ParseFault.{ParseFault}
 use Rattle.cv_syntax.specs.declared.fault.ParseFault.TheVariants as faults
 use Rattle.cv_syntax.specs.Whole.{most_levels}
 use Rattle.cv_syntax.specs.Spelling.{script_slots}
-use Rattle.cv_syntax.specs.Grammar.{Spells, Begins, BeginsAny, first_place, IsUnexpected, IsTooDeep, HasFault}
+use Rattle.cv_syntax.specs.Grammar.{SpellsTree, Begins, BeginsAny, first_place, IsUnexpected, IsTooDeep, HasFault}
 
 -- ---- what begins with more words begins with fewer
 
@@ -47,7 +47,7 @@ any_of : (us : List Placed) → Begins us → BeginsAny us
 any_of us b = record { script = b.script; ss = b.ss; more = b.more; split = b.split; fits = b.fits; whole = b.whole }
 
 -- the words of a script begin it
-begins_whole : (ws : List Placed) (script : Script) → Spells ws script → Begins ws
+begins_whole : (ws : List Placed) (script : Script) → SpellsTree ws script → Begins ws
 begins_whole ws script s = record { script = script; ss = script_slots script; more = []; split = sym (append-nil (script_slots script)); fits = s.fits; low = s.low; whole = s.whole }
 
 -- a script begins with the word that opens a level too many
@@ -96,15 +96,15 @@ cuts (u ∷ us) xs (v ∷ vs) ys e =
 
 -- ---- words that spell a script
 
-finished : (end : ℕ) (ws : List Placed) (at : ℕ) (script : Script) → Spells ws script → (u : IsUnexpected end ws at) → (bad : List Placed) → u.bad ≡ bad → ⊥
+finished : (end : ℕ) (ws : List Placed) (at : ℕ) (script : Script) → SpellsTree ws script → (u : IsUnexpected end ws at) → (bad : List Placed) → u.bad ≡ bad → ⊥
 finished end ws at script s u [] e = u.unfinished e script s
 finished end ws at script s u (w ∷ rest) e =
     u.first w rest e (any_next u.front w rest (any_of _ (subst Begins (u.whole ∙ ap (λ z. u.front ++ z) e) (begins_whole ws script s))))
 
-low_enough : (ws : List Placed) (at : ℕ) (script : Script) → Spells ws script → IsTooDeep ws at → ⊥
+low_enough : (ws : List Placed) (at : ℕ) (script : Script) → SpellsTree ws script → IsTooDeep ws at → ⊥
 low_enough ws at script s t = t.first (begins_next t.front t.w t.rest (subst Begins t.words (begins_whole ws script s)))
 
-pub spelled_whole : (end : ℕ) (ws : List Placed) (script : Script) → Spells ws script → (fault : ParseFault) → HasFault end ws fault → ⊥
+pub spelled_whole : (end : ℕ) (ws : List Placed) (script : Script) → SpellsTree ws script → (fault : ParseFault) → HasFault end ws fault → ⊥
 spelled_whole end ws script s (faults.Unexpected at) u = finished end ws at script s u u.bad refl
 spelled_whole end ws script s (faults.TooDeep at) t = low_enough ws at script s t
 spelled_whole end ws script s faults.OutOfMemory f = f

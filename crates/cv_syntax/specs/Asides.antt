@@ -97,8 +97,8 @@ script_aside script = record { items = map item_aside script.items }
 -- the bytes are lexemes that spell the script, places and all
 pub record IsTextOf (script : Script) (bytes : List ℕ) : Type 0 where
   pub lexemes : List Lexeme
-  pub lexed : lexing.Spells 0 bytes lexemes
-  pub spelled : grammar.Spells (words_of bytes lexemes) script
+  pub lexed : lexing.SpellsLexemes 0 bytes lexemes
+  pub spelled : grammar.SpellsTree (words_of bytes lexemes) script
 
 -- some text is the script's
 pub record CanBeWritten (script : Script) : Type 0 where

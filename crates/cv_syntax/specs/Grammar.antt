@@ -1,7 +1,7 @@
 -- Which words spell which script, and where words begin none.
 use Rattle.std.specs.Prelude.{◌≡◌, ℕ, suc, List, [], ◌∷◌, ◌++◌}
 use Rattle.cv_lex.specs.declared.word.Placed.{Placed}
-use Rattle.cv_readers.specs.Slots.{Slot, Fits, Matches, IsWithin}
+use Rattle.cv_readers.specs.Slots.{Slot, IsExpected, Matches, IsWithin}
 use Rattle.cv_syntax.specs.declared.tree.Script.{Script}
 use Rattle.cv_syntax.specs.declared.fault.ParseFault.{ParseFault}
 use Rattle.cv_syntax.specs.declared.fault.ParseFault.TheVariants as faults
@@ -9,7 +9,7 @@ use Rattle.cv_syntax.specs.Whole.{most_levels}
 use Rattle.cv_syntax.specs.Spelling.{script_slots, WholeScript}
 
 -- these words spell this script: it can be written, no literal or expression nests over 16, and each word is the script's, at the place that the script keeps
-pub record Spells (ws : List Placed) (script : Script) : Type 0 where
+pub record SpellsTree (ws : List Placed) (script : Script) : Type 0 where
   pub whole : WholeScript script
   pub low : IsWithin most_levels (script_slots script)
   pub fits : Matches (script_slots script) ws
@@ -46,7 +46,7 @@ pub record IsUnexpected (end : ℕ) (ws : List Placed) (at : ℕ) : Type 0 where
   pub place : at ≡ first_place end bad
   pub begins : Begins front
   pub first : (w : Placed) (rest : List Placed) → bad ≡ w ∷ rest → ¬ BeginsAny (front ++ w ∷ [])
-  pub unfinished : bad ≡ [] → (script : Script) → ¬ Spells ws script
+  pub unfinished : bad ≡ [] → (script : Script) → ¬ SpellsTree ws script
 
 -- the words begin a script as far as the place and with the word at the place, which opens the 17th level; no script begins with these words in which at most 16 levels are open at each of them
 pub record IsTooDeep (ws : List Placed) (at : ℕ) : Type 0 where
@@ -61,7 +61,7 @@ pub record IsTooDeep (ws : List Placed) (at : ℕ) : Type 0 where
   pub more : List Slot
   pub split : script_slots script ≡ ss ++ s ∷ more
   pub fits : Matches ss front
-  pub here : Fits s w
+  pub here : IsExpected s w
   pub low : IsWithin most_levels ss
   pub level : s.level ≡ suc most_levels
   pub whole : WholeScript script

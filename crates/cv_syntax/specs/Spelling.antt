@@ -17,8 +17,8 @@ use Rattle.cv_syntax.specs.declared.tree.Arg.{Arg}
 use Rattle.cv_syntax.specs.declared.tree.KindName.{KindName}
 use Rattle.cv_syntax.specs.declared.tree.KindName.TheVariants as kinds
 use Rattle.cv_syntax.specs.declared.tree.Declare.{Declare}
-use Rattle.cv_syntax.specs.declared.tree.Source.{Source}
-use Rattle.cv_syntax.specs.declared.tree.Source.TheVariants as sources
+use Rattle.cv_syntax.specs.declared.tree.JoinSource.{JoinSource}
+use Rattle.cv_syntax.specs.declared.tree.JoinSource.TheVariants as sources
 use Rattle.cv_syntax.specs.declared.tree.Target.{Target}
 use Rattle.cv_syntax.specs.declared.tree.Target.TheVariants as targets
 use Rattle.cv_syntax.specs.declared.tree.Aim.{Aim}
@@ -90,7 +90,7 @@ declare_slots d = name_slots d.name ++ mark marks.Colon ∷ (kind_slots d.kind +
 -- ---- joins
 
 -- the words of a source whose first stands at a place
-abbrev pub source_slots : ℕ → Source → List Slot
+abbrev pub source_slots : ℕ → JoinSource → List Slot
 source_slots at sources.Voidport = placed (words.Reserved reserved.Voidport) at ∷ []
 source_slots at (sources.Own port) = placed (words.Mark marks.Dot) at ∷ bare_slots port
 source_slots at (sources.Port actor port) = placed (words.Name actor) at ∷ mark marks.Dot ∷ bare_slots port

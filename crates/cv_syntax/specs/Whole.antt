@@ -11,8 +11,8 @@ use Rattle.cv_syntax.specs.declared.tree.Value.{Value}
 use Rattle.cv_syntax.specs.declared.tree.Value.TheVariants as values
 use Rattle.cv_syntax.specs.declared.tree.Arg.{Arg}
 use Rattle.cv_syntax.specs.declared.tree.Declare.{Declare}
-use Rattle.cv_syntax.specs.declared.tree.Source.{Source}
-use Rattle.cv_syntax.specs.declared.tree.Source.TheVariants as sources
+use Rattle.cv_syntax.specs.declared.tree.JoinSource.{JoinSource}
+use Rattle.cv_syntax.specs.declared.tree.JoinSource.TheVariants as sources
 use Rattle.cv_syntax.specs.declared.tree.Join.{Join}
 use Rattle.cv_syntax.specs.declared.tree.Statement.{Statement}
 use Rattle.cv_syntax.specs.declared.tree.Statement.TheVariants as statements
@@ -60,11 +60,11 @@ unfoldable pub declare_at : ℕ → Name → Reader Declare
 declare_at n name ws = kind_at ws >>= λ kind. mapped (λ args. record { name = name; kind = kind.0; args = args }) (after marks.OpenParen (listed marks.CloseParen (arg_at n)) kind.1)
 
 -- ">" targets, behind a source at a place
-unfoldable pub join_at : ℕ → Source → Reader Join
+unfoldable pub join_at : ℕ → JoinSource → Reader Join
 join_at at source ws = mapped (λ targets. record { at = at; source = source; targets = targets }) (after marks.Greater (sep marks.Comma aim_at) ws)
 
 -- "." NAME behind a name, or nothing
-unfoldable pub port_at : Name → Reader Source
+unfoldable pub port_at : Name → Reader JoinSource
 port_at actor ws =
     if first_is (is_mark marks.Dot) ws then mapped (λ port. sources.Port actor.text port) (bare_at (behind ws))
     else Ok (sources.Name actor.text, ws)
@@ -76,7 +76,7 @@ named_at n name ws =
     else port_at name ws >>= λ source. mapped statements.Join (join_at name.at source.0 source.1)
 
 -- a source that begins with no name
-unfoldable pub source_at : ℕ → Reader Source
+unfoldable pub source_at : ℕ → Reader JoinSource
 source_at n ws =
     if first_is (is_reserved reserved.Voidport) ws then Ok (sources.Voidport, behind ws)
     else (if first_is (is_mark marks.Dot) ws then mapped sources.Own (bare_at (behind ws))

@@ -1,12 +1,12 @@
 //! Scripts as they are written: the tree and the parser.
 #![tactic(auto)]
 
-mod entries;
 pub mod fault;
 mod nested;
 pub mod parsing;
 mod roots;
 mod rows;
+mod separated;
 mod small;
 mod statements;
 pub mod tree;
@@ -15,6 +15,6 @@ pub use cv_readers::Name;
 pub use fault::ParseFault;
 pub use parsing::parse;
 pub use tree::{
-    Aim, Apply, Arg, Component, Declare, Define, Factor, Item, Join, KindName, Literal, Literals,
-    Match, NamedRule, Pairs, Script, Source, Statement, Target, Term, Terms, Value,
+    Aim, Apply, Arg, Component, Declare, Define, Factor, Item, Join, JoinSource, KindName, Literal,
+    Literals, Match, NamedRule, Pairs, Script, Statement, Target, Term, Terms, Value,
 };

@@ -1,5 +1,5 @@
 //! The readers of literals and expressions. `levels` says how many levels are left.
-//! Their rows do not go through `read_row`: the toolchain proves no cycle of calls through an impl.
+//! Their rows do not go through `read_separated`: the toolchain proves no cycle of calls through an impl.
 
 ghost use Rattle.std.specs.Prelude.{◌≡◌, ◌<◌, length, IfOk};
 ghost use Rattle.cv_lex.specs.declared.word.Mark.TheVariants.{Ampersand, Bar, CloseBrace, CloseBracket, Comma};

@@ -1,11 +1,11 @@
 //! Lexemes parsed to a script.
 
 ghost use Rattle.std.specs.Prelude.{◌≡◌, ◌≤◌, ◌^◌, length, Ok, Err, IfOk, IfErr};
-ghost use Rattle.cv_lex.specs.Spelling.{Spells as SpellsLexemes};
+ghost use Rattle.cv_lex.specs.Spelling.{SpellsLexemes};
 ghost use Rattle.cv_readers.specs.Reading.{Miss};
 ghost use Rattle.cv_syntax.specs.declared.tree.Script.{Script};
 ghost use Rattle.cv_syntax.specs.declared.fault.ParseFault.{ParseFault};
-ghost use Rattle.cv_syntax.specs.Grammar.{Spells, HasFault, IsFault};
+ghost use Rattle.cv_syntax.specs.Grammar.{SpellsTree, HasFault, IsFault};
 ghost use Rattle.cv_syntax.specs.Parsing.{words_of, place_left, parsed, Answers};
 
 use crate::fault::ParseFault;
@@ -56,10 +56,10 @@ pub fn parse(alloc: Global, source: &str, lexemes: &[Lexeme]) -> Result<Script, 
     requires small { length source.now ≤ 2 ^ 31 }
     requires lexed { SpellsLexemes 0 source.now lexemes.now }
     // What is parsed is spelled by these words.
-    ensures found { IfOk result (λ script. Spells (words_of source.now lexemes.now) script) }
+    ensures found { IfOk result (λ script. SpellsTree (words_of source.now lexemes.now) script) }
     // What these words spell is parsed, unless memory runs out, and they spell nothing else.
-    ensures only { (script : Script) → Spells (words_of source.now lexemes.now) script → Answers result (Ok script) }
-    ensures one { (a b : Script) → Spells (words_of source.now lexemes.now) a → Spells (words_of source.now lexemes.now) b → a ≡ b }
+    ensures only { (script : Script) → SpellsTree (words_of source.now lexemes.now) script → Answers result (Ok script) }
+    ensures one { (a b : Script) → SpellsTree (words_of source.now lexemes.now) a → SpellsTree (words_of source.now lexemes.now) b → a ≡ b }
     // Where the words begin a script and go on with none, or open a level too many. Words with
     // such a fault are answered with it, unless memory runs out.
     ensures fault { IfErr result (IsFault (length source.now) (words_of source.now lexemes.now)) }

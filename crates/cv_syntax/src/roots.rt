@@ -5,9 +5,9 @@ ghost use Rattle.cv_lex.specs.declared.word.Reserved.TheVariants.{Apply, Compone
 ghost use Rattle.cv_readers.specs.Reading.{Gives, first_is, is_reserved};
 ghost use Rattle.cv_syntax.specs.Whole.{most_levels, component_at, define_at, rule_at, apply_at, item_at, items_at};
 
-use crate::entries::{read_listed, read_row};
 use crate::nested::read_terms;
 use crate::rows::{MOST_LEVELS, read_value};
+use crate::separated::{read_listed, read_separated};
 use crate::statements::{read_body, read_statement};
 use crate::tree::{Apply, Component, Define, Item, NamedRule};
 use cv_lex::{Mark, Placed, Reserved};
@@ -73,7 +73,7 @@ fn read_apply(alloc: Global, words: &[Placed]) -> Result<(Apply, &[Placed]), Sto
     ensures shorter { IfOk result (λ p. length p.1.now < length words.now) }
 {
     let (at, rest) = take_reserved(Reserved::Apply, words)?;
-    let (names, rest) = read_row(alloc, Mark::Comma, rest)?;
+    let (names, rest) = read_separated(alloc, Mark::Comma, rest)?;
     let rest = take_mark(Mark::Colon, rest)?;
     let (terms, rest) = read_terms(alloc, rest, MOST_LEVELS)?;
     Ok((Apply { at, names, terms }, rest))

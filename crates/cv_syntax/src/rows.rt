@@ -1,12 +1,12 @@
-//! The readers of values and arguments. Rows are read by `read_row` and `read_listed`.
+//! The readers of values and arguments. Rows are read by `read_separated` and `read_listed`.
 
 ghost use Rattle.std.specs.Prelude.{◌≡◌, ◌<◌, length, IfOk};
 ghost use Rattle.cv_readers.specs.Reading.{Gives, first_is};
 ghost use Rattle.cv_syntax.specs.Small.{is_any_name};
 ghost use Rattle.cv_syntax.specs.Whole.{most_levels, is_fraction, fraction_at, value_at, arg_at};
 
-use crate::entries::Entry;
 use crate::nested::read_literal;
+use crate::separated::Readable;
 use crate::tree::{Arg, Value};
 use cv_lex::{Mark, Placed, Word};
 use cv_readers::{Stop, first_of, take_mark, take_name};
@@ -80,10 +80,10 @@ fn read_arg(alloc: Global, words: &[Placed]) -> Result<(Arg, &[Placed]), Stop>
     Ok((Arg { name, value }, rest))
 }
 
-impl Entry for Arg {
+impl Readable for Arg {
     ghost use Rattle.cv_syntax.specs.Whole.{most_levels, arg_at};
 
-    ghost entry_at = { arg_at most_levels };
+    ghost readable_at = { arg_at most_levels };
 
     fn read(alloc: Global, words: &[Placed]) -> Result<(Arg, &[Placed]), Stop> {
         read_arg(alloc, words)

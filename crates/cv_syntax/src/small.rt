@@ -4,7 +4,7 @@ ghost use Rattle.std.specs.Prelude.{◌≡◌, ◌<◌, length, IfOk, MatchOptio
 ghost use Rattle.cv_readers.specs.Reading.{Gives, GivesRest, first_is, behind, is_reserved};
 ghost use Rattle.cv_syntax.specs.Small.{kind_at, target_at, aim_at, is_name, is_any_name, exactly_at, match_name, index_name, field_at, fields_at, index_at, bracket_at, group_at, match_at, scalar_at};
 
-use crate::entries::{Entry, read_listed};
+use crate::separated::{Readable, read_listed};
 use crate::tree::{Aim, KindName, Literal, Match, Target};
 use cv_lex::{Mark, Placed, Reserved, Word};
 use cv_readers::{
@@ -91,10 +91,10 @@ fn read_aim(alloc: Global, words: &[Placed]) -> Result<(Aim, &[Placed]), Stop>
     Ok((Aim { at, target }, rest))
 }
 
-impl Entry for Aim {
+impl Readable for Aim {
     ghost use Rattle.cv_syntax.specs.Small.{aim_at};
 
-    ghost entry_at = { aim_at };
+    ghost readable_at = { aim_at };
 
     fn read(alloc: Global, words: &[Placed]) -> Result<(Aim, &[Placed]), Stop> {
         read_aim(alloc, words)
@@ -138,10 +138,10 @@ fn read_field(alloc: Global, words: &[Placed]) -> Result<(Pair<Text>, &[Placed])
     Ok((Pair { key, value }, rest))
 }
 
-impl Entry for Pair<Text> {
+impl Readable for Pair<Text> {
     ghost use Rattle.cv_syntax.specs.Small.{field_at};
 
-    ghost entry_at = { field_at };
+    ghost readable_at = { field_at };
 
     fn read(alloc: Global, words: &[Placed]) -> Result<(Pair<Text>, &[Placed]), Stop> {
         read_field(alloc, words)

@@ -5,11 +5,11 @@ ghost use Rattle.cv_readers.specs.Reading.{Gives, first_is};
 ghost use Rattle.cv_readers.specs.Combining.{many};
 ghost use Rattle.cv_syntax.specs.Whole.{most_levels, declare_at, join_at, port_at, named_at, source_at, statement_at, body_at, is_inside};
 
-use crate::entries::{read_listed, read_row};
 use crate::nested::read_literal;
 use crate::rows::{MOST_LEVELS, begins_name};
+use crate::separated::{read_listed, read_separated};
 use crate::small::{read_kind, skip_reserved};
-use crate::tree::{Declare, Join, Source, Statement};
+use crate::tree::{Declare, Join, JoinSource, Statement};
 use cv_lex::{Mark, Placed, Reserved};
 use cv_readers::{
     Name, Stop, first_of, is_mark, place_of, skip_mark, take_bare, take_mark, take_name,
@@ -34,14 +34,14 @@ fn read_declare(alloc: Global, name: Name, words: &[Placed]) -> Result<(Declare,
 fn read_join(
     alloc: Global,
     at: u32,
-    source: Source,
+    source: JoinSource,
     words: &[Placed],
 ) -> Result<(Join, &[Placed]), Stop>
     ensures value { Gives result (join_at at source words.now) }
     ensures shorter { IfOk result (λ p. length p.1.now < length words.now) }
 {
     let rest = take_mark(Mark::Greater, words)?;
-    let (targets, rest) = read_row(alloc, Mark::Comma, rest)?;
+    let (targets, rest) = read_separated(alloc, Mark::Comma, rest)?;
     Ok((
         Join {
             at,
@@ -54,7 +54,7 @@ fn read_join(
 
 /// The source that begins with a name, behind that name.
 #[tactic(auto, unfolding(crate::specs::Whole::port_at))]
-fn read_port(alloc: Global, actor: Name, words: &[Placed]) -> Result<(Source, &[Placed]), Stop>
+fn read_port(alloc: Global, actor: Name, words: &[Placed]) -> Result<(JoinSource, &[Placed]), Stop>
     ensures value { Gives result (port_at actor words.now) }
     ensures shorter { IfOk result (λ p. length p.1.now ≤ length words.now) }
 {
@@ -62,9 +62,9 @@ fn read_port(alloc: Global, actor: Name, words: &[Placed]) -> Result<(Source, &[
     match skip_mark(Mark::Dot, words) {
         Some(after) => {
             let (port, rest) = take_bare(alloc, after)?;
-            Ok((Source::Port(text, port), rest))
+            Ok((JoinSource::Port(text, port), rest))
         }
-        None => Ok((Source::Name(text), words)),
+        None => Ok((JoinSource::Name(text), words)),
     }
 }
 
@@ -86,19 +86,19 @@ fn read_named(alloc: Global, name: Name, words: &[Placed]) -> Result<(Statement,
 
 /// A source that begins with no name.
 #[tactic(auto, unfolding(crate::specs::Whole::source_at))]
-fn read_source(alloc: Global, words: &[Placed]) -> Result<(Source, &[Placed]), Stop>
+fn read_source(alloc: Global, words: &[Placed]) -> Result<(JoinSource, &[Placed]), Stop>
     ensures value { Gives result (source_at most_levels words.now) }
     ensures shorter { IfOk result (λ p. length p.1.now < length words.now) }
 {
     if let Some(rest) = skip_reserved(Reserved::Voidport, words) {
-        return Ok((Source::Voidport, rest));
+        return Ok((JoinSource::Voidport, rest));
     }
     if let Some(after) = skip_mark(Mark::Dot, words) {
         let (port, rest) = take_bare(alloc, after)?;
-        return Ok((Source::Own(port), rest));
+        return Ok((JoinSource::Own(port), rest));
     }
     let (literal, rest) = read_literal(alloc, words, MOST_LEVELS)?;
-    Ok((Source::Literal(literal), rest))
+    Ok((JoinSource::Literal(literal), rest))
 }
 
 /// A declaration or a join.

@@ -57,7 +57,7 @@ pub struct Declare {
 
 /// Where a join comes from.
 #[derive(Drop)]
-pub enum Source {
+pub enum JoinSource {
     Voidport,
     /// `.port`, an inport of the component itself.
     Own(NameText),
@@ -89,7 +89,7 @@ pub struct Aim {
 #[derive(Drop)]
 pub struct Join {
     pub at: u32,
-    pub source: Source,
+    pub source: JoinSource,
     pub targets: Items<Aim>,
 }
 

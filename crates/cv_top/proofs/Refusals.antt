@@ -10,7 +10,7 @@ use Rattle.cv_deploy.specs.Faults.{Gives, IsCaused, Means, Refuses}
 use Rattle.cv_kinds.specs.Net.{Net}
 use Rattle.cv_kinds.specs.Wired.{IsWired}
 use Rattle.cv_protocol.specs.declared.event.Record.{Record}
-use Rattle.cv_alone.specs.declared.alone.Stop.TheVariants as stop
+use Rattle.cv_alone.specs.declared.alone.RunEnd.TheVariants as stop
 use Rattle.cv_top.specs.declared.end.Answer.{Answer}
 use Rattle.cv_top.specs.declared.end.End.{End}
 use Rattle.cv_top.specs.declared.end.End.TheVariants as end

@@ -14,7 +14,7 @@ use Rattle.cv_protocol.specs.declared.event.Record.{Record}
 use Rattle.cv_protocol.specs.declared.event.Step.{Step}
 use Rattle.cv_protocol.specs.NodeState.{NodeState, opening}
 use Rattle.cv_protocol.specs.Journals.{got_frame, replay, IsLocalRun}
-use Rattle.cv_alone.specs.declared.alone.Stop.{Stop}
+use Rattle.cv_alone.specs.declared.alone.RunEnd.{RunEnd}
 use Rattle.cv_alone.specs.Going.{are_own, is_own}
 use Rattle.cv_alone.specs.Recorded.{IsOneNodeRun, first_entry, first_spec, only_first}
 use Rattle.cv_alone.specs.Resting.{run_app}
@@ -88,13 +88,13 @@ got_nothing net more own i before after e f is got =
 opening_at : (i : ℕ) → (1 == i) ≡ true → openings i ≡ opening first_spec
 opening_at i same = ap openings (sym (eqb-true 1 i same))
 
-local_runs : (net : Net) (most : ℕ) (s : Stop) (m : Record) (run : IsOneNodeRun net most s m) → AreLocalRuns openings (only_first (first_entry net ∷ run.more))
+local_runs : (net : Net) (most : ℕ) (s : RunEnd) (m : Record) (run : IsOneNodeRun net most s m) → AreLocalRuns openings (only_first (first_entry net ∷ run.more))
 local_runs net most s m run i =
     first_run (1 == i) (openings i) (first_entry net ∷ run.more) (λ same.
     let replays : replay (openings i) (first_entry net ∷ run.more) ≡ Some run.state = ap (λ (o : NodeState). replay o (first_entry net ∷ run.more)) (opening_at i same) ∙ run.local_run in
     ap is_some replays)
 
-pub is_run : (net : Net) (most : ℕ) (s : Stop) (m : Record) (run : IsOneNodeRun net most s m) → IsRun openings (only_first (first_entry net ∷ run.more)) m.entries
+pub is_run : (net : Net) (most : ℕ) (s : RunEnd) (m : Record) (run : IsOneNodeRun net most s m) → IsRun openings (only_first (first_entry net ∷ run.more)) m.entries
 is_run net most s m run =
     let local = local_runs net most s m run in
     record {
@@ -107,11 +107,11 @@ is_run net most s m run =
 nobody : ActorSpec
 nobody = record { path = []; kind = kind.Flow flow.Identity; args = [] }
 
-streams_hold : (net : Net) (most : ℕ) (s : Stop) (m : Record) (run : IsOneNodeRun net most s m) → IsWired net → (begins rest : List Step) → m.entries ≡ begins ++ rest → StreamsInOrder net run.more begins
+streams_hold : (net : Net) (most : ℕ) (s : RunEnd) (m : Record) (run : IsOneNodeRun net most s m) → IsWired net → (begins rest : List Step) → m.entries ≡ begins ++ rest → StreamsInOrder net run.more begins
 streams_hold net most s m run wired begins rest split somebody =
     each_opened (λ i. record first_spec { no = i }) somebody (only_first (first_entry net ∷ run.more)) m.entries (λ i. refl) (is_run net most s m run) begins rest run_app split wired
 
-pub right_alone : (net : Net) (most : ℕ) (s : Stop) (m : Record) → IsWired net → IsOneNodeRun net most s m → IsRightAlone net most s m
+pub right_alone : (net : Net) (most : ℕ) (s : RunEnd) (m : Record) → IsWired net → IsOneNodeRun net most s m → IsRightAlone net most s m
 right_alone net most s m wired run = record {
   run = run;
   owners = owners_opened (λ i. record first_spec { no = i }) nobody (only_first (first_entry net ∷ run.more)) m.entries (λ i. refl) (is_run net most s m run);
@@ -119,7 +119,7 @@ right_alone net most s m wired run = record {
 }
 
 -- a run of one node is one of the words that ask for one node
-pub alone_right : (run : Run) (net : Net) (most : ℕ) (x : Result (Stop × Record) AllocError) → run.nodes ≡ 1 → most ≡ run.firings → IsWired net
+pub alone_right : (run : Run) (net : Net) (most : ℕ) (x : Result (RunEnd × Record) AllocError) → run.nodes ≡ 1 → most ≡ run.firings → IsWired net
     → IfOk x (λ r. IsOneNodeRun net most r.0 r.1) → IfOk x (λ r. IsRightRecord run net r.0 r.1)
 alone_right run net most (Ok r) one same wired is =
     inl (one, right_alone net run.firings r.0 r.1 wired (subst (λ (k : ℕ). IsOneNodeRun net k r.0 r.1) same is))
@@ -128,11 +128,11 @@ alone_right run net most (Err x) one same wired is = tt
 -- 4. The text is that of the recorded firings
 
 -- the one runtime allows the recorded firings
-solo_defined : (run : Run) (net : Net) (s : Stop) (m : Record) → IsRightRecord run net s m → (r : Runtime) × (solo net (firings_of m.entries) ≡ Some r)
+solo_defined : (run : Run) (net : Net) (s : RunEnd) (m : Record) → IsRightRecord run net s m → (r : Runtime) × (solo net (firings_of m.entries) ≡ Some r)
 solo_defined run net s m (inl (one, right)) = let whole = right.streams m.entries [] (sym (append-nil m.entries)) nobody in (whole.runtime, whole.defined)
 solo_defined run net s m (inr (more, right)) = let whole = right.streams m.entries [] (sym (append-nil m.entries)) nobody in (whole.runtime, whole.defined)
 
-pub right_run : (run : Run) (net : Net) (s : Stop) (m : Record) (text : List ℕ) → IsRightRecord run net s m → IsTextWhereDefined net (firings_of m.entries) s text → IsRightRun run net s m text
+pub right_run : (run : Run) (net : Net) (s : RunEnd) (m : Record) (text : List ℕ) → IsRightRecord run net s m → IsTextWhereDefined net (firings_of m.entries) s text → IsRightRun run net s m text
 right_run run net s m text right printed =
     let whole = solo_defined run net s m right in
     record { right = right; runtime = whole.0; defined = whole.1; printed = printed whole.0 whole.1 }

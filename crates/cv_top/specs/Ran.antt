@@ -11,8 +11,8 @@ use Rattle.cv_protocol.specs.declared.event.Record.{Record}
 use Rattle.cv_protocol.specs.declared.event.Step.{Step}
 use Rattle.cv_protocol.specs.NodeState.{NodeState, opening}
 use Rattle.cv_protocol.specs.Owners.{Owners, Nowhere}
-use Rattle.cv_alone.specs.declared.alone.Stop.{Stop}
-use Rattle.cv_alone.specs.declared.alone.Stop.TheVariants as stop
+use Rattle.cv_alone.specs.declared.alone.RunEnd.{RunEnd}
+use Rattle.cv_alone.specs.declared.alone.RunEnd.TheVariants as stop
 use Rattle.cv_alone.specs.Recorded.{IsOneNodeRun, first_entry, first_spec, only_first}
 use Rattle.cv_alone.specs.Resting.{run_app}
 use Rattle.cv_handover.specs.Alone.{Alone}
@@ -60,7 +60,7 @@ StreamsInOrder net more begins =
     (nobody : ActorSpec) → Alone (nets net more nobody) openings (nothing_yet (nets net more nobody)) (solo.opening net) begins run_app
 
 -- a run of a network on one node, with so many firings at most, that stopped so, with this record
-pub record IsRightAlone (net : Net) (most : ℕ) (s : Stop) (m : Record) : Type 0 where
+pub record IsRightAlone (net : Net) (most : ℕ) (s : RunEnd) (m : Record) : Type 0 where
   -- the record is a local run of node 1 alone, that begins with the network's one deployment, and its end is right
   pub run : IsOneNodeRun net most s m
   -- at every beginning of it each actor lives at its owner and nowhere else
@@ -82,32 +82,32 @@ abbrev pub IsNear : LinkItem → Type 0
 IsNear i = (i.from < 2 ^ 16) × (i.to < 2 ^ 16)
 
 -- a run of a network as the words ask, that stopped so, with this record: on one node, or over several with the faults of links
-abbrev pub IsRightRecord : Run → Net → Stop → Record → Type 0
+abbrev pub IsRightRecord : Run → Net → RunEnd → Record → Type 0
 IsRightRecord run net s m =
     ((run.nodes ≡ 1) × IsRightAlone net run.firings s m)
     ⊎ ((1 < run.nodes) × IsSpreadRun net run.nodes (map link_item run.items) run.firings s m)
 
 -- the same with its text: that of the one runtime that fires the recorded actions in recorded order
-pub record IsRightRun (run : Run) (net : Net) (s : Stop) (m : Record) (text : List ℕ) : Type 0 where
+pub record IsRightRun (run : Run) (net : Net) (s : RunEnd) (m : Record) (text : List ℕ) : Type 0 where
   pub right : IsRightRecord run net s m
   pub runtime : Runtime
   pub defined : solo.solo net (firings_of m.entries) ≡ Some runtime
   pub printed : IsTextOf net (firings_of m.entries) runtime s text
 
 -- a run with another text: that of the journals in the record
-pub record IsRightTrace (run : Run) (net : Net) (s : Stop) (m : Record) (text : List ℕ) : Type 0 where
+pub record IsRightTrace (run : Run) (net : Net) (s : RunEnd) (m : Record) (text : List ℕ) : Type 0 where
   pub right : IsRightRecord run net s m
   pub written : text ≡ journals_text (journals_in m)
 
 -- a run in rounds is spent exactly after the firings that were allowed, and quiescent only after fewer and where no action is
 -- ready
-abbrev pub RoundsEnd : Net → ℕ → Stop → List (ℕ × ℕ) → Runtime → Type 0
+abbrev pub RoundsEnd : Net → ℕ → RunEnd → List (ℕ × ℕ) → Runtime → Type 0
 RoundsEnd net most stop.Spent firings after = length firings ≡ most
 RoundsEnd net most stop.Quiescent firings after = (length firings < most) × IsIdle net after
 
 -- a run of a network by the one runtime in rounds, with so many firings at most, that stopped so, with this text: that of the
 -- first so many firings of the rounds. It leaves no record.
-pub record IsRightRounds (net : Net) (most : ℕ) (s : Stop) (m : Record) (text : List ℕ) : Type 0 where
+pub record IsRightRounds (net : Net) (most : ℕ) (s : RunEnd) (m : Record) (text : List ℕ) : Type 0 where
   pub firings : List (ℕ × ℕ)
   pub runtime : Runtime
   pub run : IsPlainRun net most firings runtime
@@ -116,15 +116,15 @@ pub record IsRightRounds (net : Net) (most : ℕ) (s : Stop) (m : Record) (text 
   pub empty : IsEmptyRecord m
 
 -- the end of a run that stopped so
-abbrev pub end_at : Stop → End
+abbrev pub end_at : RunEnd → End
 end_at stop.Spent = end.Spent
 end_at stop.Quiescent = end.Quiescent
 
 -- what is done with a network, as the task asks: how it ends, its record, and its text
 abbrev pub IsRight : Task → Net → End → Record → List ℕ → Type 0
-IsRight (task.Run run) net e m text = (s : Stop) × (e ≡ end_at s) × IsRightRun run net s m text
-IsRight (task.Trace run) net e m text = (s : Stop) × (e ≡ end_at s) × IsRightTrace run net s m text
-IsRight (task.Solo most) net e m text = (s : Stop) × (e ≡ end_at s) × IsRightRounds net most s m text
+IsRight (task.Run run) net e m text = (s : RunEnd) × (e ≡ end_at s) × IsRightRun run net s m text
+IsRight (task.Trace run) net e m text = (s : RunEnd) × (e ≡ end_at s) × IsRightTrace run net s m text
+IsRight (task.Solo most) net e m text = (s : RunEnd) × (e ≡ end_at s) × IsRightRounds net most s m text
 IsRight task.Compile net e m text = (e ≡ end.Done) × IsEmptyRecord m × (text ≡ with_feed (spelling (network_token net)))
 
 -- the same with the network that the bytes of a script mean, for a task whose items name nodes that run

@@ -5,7 +5,7 @@ ghost use Rattle.cv_top.specs.Answers.{status_of};
 ghost use Rattle.cv_top.specs.Causes.{end_of};
 ghost use Rattle.cv_top.specs.Ran.{end_at, IsEmptyRecord};
 
-use cv_alone::Stop;
+use cv_alone::RunEnd;
 use cv_deploy::Code;
 use cv_protocol::{NodeSpecs, Record, Steps};
 use cv_words::Stray;
@@ -124,12 +124,12 @@ pub fn empty_record(alloc: Global) -> Record
 
 impl End {
     /// The end of a run that stopped so.
-    pub fn at(stop: Stop) -> End
+    pub fn at(stop: RunEnd) -> End
         ensures { result ≡ end_at stop }
     {
         match stop {
-            Stop::Spent => End::Spent,
-            Stop::Quiescent => End::Quiescent,
+            RunEnd::Spent => End::Spent,
+            RunEnd::Quiescent => End::Quiescent,
         }
     }
 

@@ -5,7 +5,7 @@ ghost use Rattle.cv_kinds.specs.Wired.{IsWired};
 ghost use Rattle.cv_top.specs.Ran.{IsNear, IsRightRecord, link_item};
 ghost use Rattle.cv_words.specs.Items.{stray_in};
 
-use cv_alone::{Stop, run_alone};
+use cv_alone::{RunEnd, run_alone};
 use cv_io::Gate;
 use cv_kinds::Network;
 use cv_link::Item;
@@ -23,7 +23,7 @@ pub fn run_on_nodes<R: Threads + Sync, G: Gate>(
     net: Network,
     words: &RunWords,
     gate: &G,
-) -> Result<(Stop, Record), OutOfMemory>
+) -> Result<(RunEnd, Record), OutOfMemory>
     requires wired { IsWired net }
     requires fits { stray_in words.now.nodes words.now.items ≡ None }
     ensures { IfOk result (λ run. IsRightRecord words.now net run.0 run.1) }

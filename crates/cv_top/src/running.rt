@@ -6,7 +6,7 @@ ghost use Rattle.cv_deploy.specs.Faults.{HasFault, Means};
 ghost use Rattle.cv_kinds.specs.Net.{Net};
 ghost use Rattle.cv_kinds.specs.Wired.{IsWired};
 ghost use Rattle.cv_network.specs.Written.{network_token};
-ghost use Rattle.cv_alone.specs.declared.alone.Stop.{Stop};
+ghost use Rattle.cv_alone.specs.declared.alone.RunEnd.{RunEnd};
 ghost use Rattle.cv_solo.specs.OneRuntime.{Runtime, opening, solo, solo_from};
 ghost use Rattle.cv_solo.specs.PlainNetwork.{IsPlainRun};
 ghost use Rattle.cv_token.specs.Spelling.{spelling};
@@ -21,7 +21,7 @@ ghost use Rattle.cv_top.specs.Ran.{IsDoneFor, IsEmptyRecord, IsRight, IsRightRun
 use crate::end::{Answer, End, Refusal, empty_record};
 use crate::nodes::run_on_nodes;
 use crate::tracing::trace;
-use cv_alone::Stop;
+use cv_alone::RunEnd;
 use cv_deploy::{NoNetwork, compile};
 use cv_io::Gate;
 use cv_kinds::Network;
@@ -91,12 +91,12 @@ fn do_with<R: Threads + Sync, G: Gate>(
         Task::Run(words) => run(rt, alloc, net, &words, gate),
         Task::Trace(words) => trace(rt, alloc, net, &words, gate),
         Task::Solo { firings } => run_in_rounds(alloc, &net, firings),
-        Task::Compile => shown(alloc, &net),
+        Task::Compile => print_network(alloc, &net),
     }
 }
 
 /// The text of a network.
-fn shown(alloc: Global, net: &Network) -> Result<Answer, OutOfMemory>
+fn print_network(alloc: Global, net: &Network) -> Result<Answer, OutOfMemory>
     ensures { IfOk result (λ answer. (answer.end ≡ end.Done) × IsEmptyRecord answer.merged × (string_bytes answer.text ≡ with_feed (spelling (network_token net.now)))) }
 {
     let json = network_text(alloc, net)?;
@@ -125,7 +125,7 @@ fn refusal_of(none: NoNetwork) -> Refusal
 
 /// Runs a network by the one runtime in rounds, with so many firings at most.
 fn run_in_rounds(alloc: Global, net: &Network, most: u32) -> Result<Answer, OutOfMemory>
-    ensures { IfOk result (λ answer. (stop : Stop) × (answer.end ≡ end_at stop) × IsRightRounds net.now most stop answer.merged (string_bytes answer.text)) }
+    ensures { IfOk result (λ answer. (stop : RunEnd) × (answer.end ≡ end_at stop) × IsRightRounds net.now most stop answer.merged (string_bytes answer.text)) }
 {
     let mut solo = Solo::new(alloc, net)?;
     let (stop, fired) = make_rounds(alloc, &mut solo, most)?;
@@ -140,7 +140,7 @@ fn run_in_rounds(alloc: Global, net: &Network, most: u32) -> Result<Answer, OutO
 
 /// Fires the rounds of a new machine, until so many firings were made or no action is ready: how it stopped, and how many
 /// firings were made.
-fn make_rounds(alloc: Global, solo: &mut Solo, most: u32) -> Result<(Stop, u32), OutOfMemory>
+fn make_rounds(alloc: Global, solo: &mut Solo, most: u32) -> Result<(RunEnd, u32), OutOfMemory>
     requires { solo.old.runtime ≡ opening solo.old.net }
     ensures net { solo.new.net ≡ solo.old.net }
     ensures made { IfOk result (λ run. (firings : List (ℕ × ℕ)) × IsPlainRun solo.old.net most firings solo.new.runtime × (length firings ≡ run.1) × RoundsEnd solo.old.net most run.0 firings solo.new.runtime) }
@@ -149,11 +149,11 @@ fn make_rounds(alloc: Global, solo: &mut Solo, most: u32) -> Result<(Stop, u32),
     while fired < most {
         let more = solo.round(alloc, most - fired)?;
         if more == 0 {
-            return Ok((Stop::Quiescent, fired));
+            return Ok((RunEnd::Quiescent, fired));
         }
         fired += more;
     }
-    Ok((Stop::Spent, fired))
+    Ok((RunEnd::Spent, fired))
 }
 
 /// Runs a network as the words ask; the text is that of its streams.
@@ -166,7 +166,7 @@ fn run<R: Threads + Sync, G: Gate>(
 ) -> Result<Answer, OutOfMemory>
     requires wired { IsWired net }
     requires fits { stray_in words.now.nodes words.now.items ≡ None }
-    ensures { IfOk result (λ answer. (stop : Stop) × (answer.end ≡ end_at stop) × IsRightRun words.now net stop answer.merged (string_bytes answer.text)) }
+    ensures { IfOk result (λ answer. (stop : RunEnd) × (answer.end ≡ end_at stop) × IsRightRun words.now net stop answer.merged (string_bytes answer.text)) }
 {
     let (stop, merged) = run_on_nodes(rt, alloc, net.copy(alloc)?, words, gate)?;
     let text = printed(alloc, &net, merged.entries.as_slice(), stop)?;
@@ -178,10 +178,15 @@ fn run<R: Threads + Sync, G: Gate>(
 }
 
 /// The text of a run: the lines of its prints, the number of its firings, and its end.
-fn printed(alloc: Global, net: &Network, steps: &[Step], stop: Stop) -> Result<String, OutOfMemory>
+fn printed(
+    alloc: Global,
+    net: &Network,
+    steps: &[Step],
+    stop: RunEnd,
+) -> Result<String, OutOfMemory>
     ensures { IfOk result (λ text. IsTextWhereDefined net.now (firings_of steps.now) stop (string_bytes text)) }
 {
-    let solo = replayed(alloc, net, steps)?;
+    let solo = replay(alloc, net, steps)?;
     let prints = solo.print(alloc)?;
     let count = firing_count(steps);
     with_last_lines(alloc, prints.as_str(), count, stop)
@@ -192,7 +197,7 @@ fn with_last_lines(
     alloc: Global,
     lines: &str,
     count: usize,
-    stop: Stop,
+    stop: RunEnd,
 ) -> Result<String, OutOfMemory>
     ensures { IfOk result (λ text. string_bytes text ≡ lines.now ++ last_lines count stop) }
 {
@@ -207,17 +212,17 @@ fn with_last_lines(
 }
 
 /// The word of an end.
-fn end_word(stop: Stop) -> &'static str
+fn end_word(stop: RunEnd) -> &'static str
     ensures { result.now ≡ end_word stop }
 {
     match stop {
-        Stop::Spent => "spent",
-        Stop::Quiescent => "quiescent",
+        RunEnd::Spent => "spent",
+        RunEnd::Quiescent => "quiescent",
     }
 }
 
 /// The one runtime after the recorded firings.
-fn replayed(alloc: Global, net: &Network, steps: &[Step]) -> Result<Solo, OutOfMemory>
+fn replay(alloc: Global, net: &Network, steps: &[Step]) -> Result<Solo, OutOfMemory>
     ensures { IfOk result (λ s. (s.net ≡ net.now) × ((r : Runtime) → solo net.now (firings_of steps.now) ≡ Some r → s.runtime ≡ r)) }
 {
     let mut solo = Solo::new(alloc, net)?;

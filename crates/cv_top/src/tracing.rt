@@ -1,7 +1,7 @@
 //! `trace`: a run, and its journals as text.
 
 ghost use Rattle.std.specs.Prelude.{◌≡◌, None, string_bytes, IfOk};
-ghost use Rattle.cv_alone.specs.declared.alone.Stop.{Stop};
+ghost use Rattle.cv_alone.specs.declared.alone.RunEnd.{RunEnd};
 ghost use Rattle.cv_kinds.specs.Wired.{IsWired};
 ghost use Rattle.cv_top.specs.Ran.{IsRightTrace, end_at};
 ghost use Rattle.cv_words.specs.Items.{stray_in};
@@ -26,7 +26,7 @@ pub fn trace<R: Threads + Sync, G: Gate>(
 ) -> Result<Answer, OutOfMemory>
     requires wired { IsWired net }
     requires fits { stray_in words.now.nodes words.now.items ≡ None }
-    ensures { IfOk result (λ answer. (stop : Stop) × (answer.end ≡ end_at stop) × IsRightTrace words.now net stop answer.merged (string_bytes answer.text)) }
+    ensures { IfOk result (λ answer. (stop : RunEnd) × (answer.end ≡ end_at stop) × IsRightTrace words.now net stop answer.merged (string_bytes answer.text)) }
 {
     let (stop, merged) = run_on_nodes(rt, alloc, net, words, gate)?;
     let text = record_text(alloc, &merged)?;

@@ -9,7 +9,7 @@ use Rattle.cv_lex.specs.declared.word.Reserved.TheVariants as reserved
 use Rattle.cv_lex.specs.declared.word.Word.{Word}
 use Rattle.cv_lex.specs.declared.word.Word.TheVariants as words
 use Rattle.cv_lex.specs.Numbers.{int_of}
-use Rattle.cv_lex.specs.Shapes.{IsAt, Fits}
+use Rattle.cv_lex.specs.Shapes.{IsAt, IsInLimits}
 use Rattle.cv_lex.specs.Texts.{said_from, good_of, bad_of}
 use Rattle.cv_lex.specs.Words.{reserved_of, name_word, word_of}
 use Rattle.cv_writing.specs.Written.{quoted, word_bytes}
@@ -23,7 +23,7 @@ inner front = take (length front - 2) (drop 1 front)
 -- a lexeme of a sort, with what follows it, is this word
 pub record Is (sort : Sort) (front rest : List ℕ) (word : Word) : Type 0 where
   pub stands : IsAt (Some sort) front rest
-  pub fits : Fits sort front
+  pub fits : IsInLimits sort front
   pub says : word_of sort front (inner front) ≡ word
 
 -- the sort of the lexeme that is written for a word
@@ -84,7 +84,7 @@ int_writable z wide rest =
       says = ap (λ o. words.Int (unwrap_or o (pos 0))) d.1;
     }
 
-name_writable : (front : List ℕ) (rest : List ℕ) (r : Option Reserved) → reserved_of front ≡ r → IsAt (Some sorts.Name) front rest → Fits sorts.Name front → IsWritable (name_word front r)
+name_writable : (front : List ℕ) (rest : List ℕ) (r : Option Reserved) → reserved_of front ≡ r → IsAt (Some sorts.Name) front rest → IsInLimits sorts.Name front → IsWritable (name_word front r)
 name_writable front rest (Some r) e h f = reserved_writable r
 name_writable front rest None e h f = λ more. record { stands = h; fits = f; says = ap (name_word front) e }
 
@@ -93,7 +93,7 @@ int_read front (Some z) e f = int_writable z (int_wide front z e)
 int_read front None e f = cc
 
 -- the word of a lexeme can be written
-pub word_writable : (sort : Sort) (front rest : List ℕ) → IsAt (Some sort) front rest → Fits sort front → IsWritable (word_of sort front (inner front))
+pub word_writable : (sort : Sort) (front rest : List ℕ) → IsAt (Some sort) front rest → IsInLimits sort front → IsWritable (word_of sort front (inner front))
 word_writable sorts.Name front rest h f = name_writable front rest (reserved_of front) refl h f
 word_writable sorts.Int front rest h f = int_read front (int_of front) refl f
 word_writable sorts.Fraction front rest h f = λ more. record { stands = h; fits = tt; says = refl }

@@ -8,8 +8,8 @@ use Rattle.cv_readers.specs.Slots.{Slot, mark, opening, raise, place_first, all_
 use Rattle.cv_writing.specs.Written.{mark_bytes, word_bytes}
 use Rattle.cv_syntax.specs.declared.tree.Literal.{Literal}
 use Rattle.cv_syntax.specs.declared.tree.Literal.TheVariants as literals
-use Rattle.cv_syntax.specs.declared.tree.Source.{Source}
-use Rattle.cv_syntax.specs.declared.tree.Source.TheVariants as sources
+use Rattle.cv_syntax.specs.declared.tree.JoinSource.{JoinSource}
+use Rattle.cv_syntax.specs.declared.tree.JoinSource.TheVariants as sources
 use Rattle.cv_syntax.specs.declared.tree.Factor.{Factor}
 use Rattle.cv_syntax.specs.declared.tree.Factor.TheVariants as factors
 use Rattle.cv_syntax.specs.Spelling.{in_level, literal_slots, source_slots, factor_slots, terms_slots}
@@ -31,7 +31,7 @@ printed_place at [] = refl
 printed_place at (s ∷ ss) = refl
 
 -- a source's words are the same at any place
-pub source_anywhere : (at : ℕ) (source : Source) → printed (source_slots at source) ≡ printed (source_slots 0 source)
+pub source_anywhere : (at : ℕ) (source : JoinSource) → printed (source_slots at source) ≡ printed (source_slots 0 source)
 source_anywhere at sources.Voidport = refl
 source_anywhere at (sources.Own port) = refl
 source_anywhere at (sources.Port actor port) = refl

@@ -6,7 +6,7 @@ use Rattle.std.specs.List.{AllByRecursion}
 use Rattle.cv_lex.specs.declared.lexeme.Sort.{Sort}
 use Rattle.cv_lex.specs.declared.lexeme.Lexeme.{Lexeme}
 use Rattle.cv_lex.specs.declared.word.Word.{Word}
-use Rattle.cv_lex.specs.Spelling.{Spells, nothing, blank, lexeme}
+use Rattle.cv_lex.specs.Spelling.{SpellsLexemes, nothing, blank, lexeme}
 use Rattle.cv_lex.specs.Words.{word_of, placed_word}
 use Rattle.cv_lex.proofs.Covers.{drop-front}
 use Rattle.cv_lex.proofs.Right.{take-front}
@@ -43,7 +43,7 @@ longer at before front e = length-append before front ∙ ap (λ n. n + length f
 abbrev AllWritable : List Word → Type 0
 AllWritable = AllByRecursion IsWritable
 
-source_writable : (at : ℕ) (before bytes : List ℕ) (found : List Lexeme) → Spells at bytes found → length before ≡ at → AllWritable (words_in (before ++ bytes) found)
+source_writable : (at : ℕ) (before bytes : List ℕ) (found : List Lexeme) → SpellsLexemes at bytes found → length before ≡ at → AllWritable (words_in (before ++ bytes) found)
 source_writable at before bytes found nothing e = tt
 source_writable at before bytes found (blank {rest = rest} {lexemes = ls} front s h) e =
     subst (λ source. AllWritable (words_in source ls)) (append_assoc before front rest)
@@ -61,7 +61,7 @@ lexemes_of : ℕ → List Word → List Lexeme
 lexemes_of at [] = []
 lexemes_of at (w ∷ ws) = record { sort = sort_of w; at = at; len = length (word_bytes w) } ∷ lexemes_of (at + length (word_bytes w) + 1) ws
 
-written_spells : (at : ℕ) (ws : List Word) → AllWritable ws → Spells at (written ws) (lexemes_of at ws)
+written_spells : (at : ℕ) (ws : List Word) → AllWritable ws → SpellsLexemes at (written ws) (lexemes_of at ws)
 unfolding lexemes_of
 written_spells at [] h = nothing
 written_spells at (w ∷ ws) h =
@@ -81,7 +81,7 @@ written_words at before (w ∷ ws) h e =
     ap₂ (λ x xs. x ∷ xs) (word_here (sort_of w) at before front (32 ∷ written ws) e ∙ i.says)
     (subst (λ source. words_in source (lexemes_of (at + length front + 1) ws) ≡ ws) all (written_words (at + length front + 1) next ws h.1 place))
 
-pub read_again : (source : List ℕ) (found : List Lexeme) → Spells 0 source found → ReadsAs (written (words_in source found)) (words_in source found)
+pub read_again : (source : List ℕ) (found : List Lexeme) → SpellsLexemes 0 source found → ReadsAs (written (words_in source found)) (words_in source found)
 read_again source found s =
     let ws = words_in source found in
     let good : AllWritable ws = source_writable 0 [] source found s refl in

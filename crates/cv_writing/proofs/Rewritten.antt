@@ -14,7 +14,7 @@ use Rattle.cv_syntax.specs.declared.tree.Script.{Script}
 use Rattle.cv_syntax.specs.Whole.{most_levels, items_at}
 use Rattle.cv_syntax.specs.Spelling.{script_slots}
 use Rattle.cv_syntax.specs.Parsing.{words_of, answer_of}
-use Rattle.cv_syntax.specs.Grammar.{Spells}
+use Rattle.cv_syntax.specs.Grammar.{SpellsTree}
 use Rattle.cv_syntax.specs.Asides.{item_aside, CanBeWritten, ReadsBack}
 use Rattle.cv_writing.specs.Printing.{words_expected, printed}
 use Rattle.cv_syntax.proofs.Asides.{items_blind}
@@ -64,7 +64,7 @@ same_read xs vs (Ok p) e a =
     }
 same_read xs vs (Err miss) e a = cc
 
-read_elsewhere : (script : Script) (ws vs : List Placed) → Spells ws script → all_zeroed vs ≡ all_zeroed ws → SameAside script.items vs
+read_elsewhere : (script : Script) (ws vs : List Placed) → SpellsTree ws script → all_zeroed vs ≡ all_zeroed ws → SameAside script.items vs
 read_elsewhere script ws vs s e =
     same_read script.items vs (items_at most_levels vs) refl
     (sym (items_blind most_levels vs) ∙ ap (items_at most_levels) e ∙ items_blind most_levels ws ∙ ap (aside (map item_aside)) (read_again ws script s))

@@ -9,7 +9,7 @@ use Rattle.cv_lex.specs.declared.word.Reserved.TheVariants as reserved
 use Rattle.cv_lex.specs.declared.word.Word.{Word}
 use Rattle.cv_lex.specs.declared.word.Word.TheVariants as words
 use Rattle.cv_lex.specs.Words.{placed_word}
-use Rattle.cv_lex.specs.Spelling.{Spells}
+use Rattle.cv_lex.specs.Spelling.{SpellsLexemes}
 
 abbrev pub mark_bytes : Mark → List ℕ
 mark_bytes marks.OpenParen = codes "("
@@ -72,5 +72,5 @@ words_in source found = map (λ lexeme. (placed_word source lexeme).word) found
 -- the bytes are lexemes that are these words
 pub record ReadsAs (bytes : List ℕ) (words : List Word) : Type 0 where
   pub lexemes : List Lexeme
-  pub spelled : Spells 0 bytes lexemes
+  pub spelled : SpellsLexemes 0 bytes lexemes
   pub same : words_in bytes lexemes ≡ words

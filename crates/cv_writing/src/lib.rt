@@ -6,7 +6,7 @@ mod print_rules;
 mod print_statements;
 mod print_values;
 pub mod printing;
-mod rows;
+mod separated;
 pub mod writing;
 
 pub use printing::print;

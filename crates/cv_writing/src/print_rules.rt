@@ -8,7 +8,7 @@ ghost use Rattle.cv_syntax.specs.Spelling.{in_level, field_slots, index_slots, g
 ghost use Rattle.cv_writing.specs.Printing.{Adds};
 
 use crate::print_values::{print_name, print_text};
-use crate::rows::{Entry, print_row};
+use crate::separated::{Printable, print_separated};
 use crate::writing::{push_mark, push_name};
 use cv_lex::Mark;
 use cv_syntax::{Factor, Match, Term, Terms};
@@ -24,7 +24,7 @@ fn print_field(out: &mut String, field: &Pair<Text>) -> Result<(), OutOfMemory>
     print_text(out, &field.value)
 }
 
-impl Entry for Pair<Text> {
+impl Printable for Pair<Text> {
     ghost use Rattle.cv_syntax.specs.Spelling.{field_slots};
 
     ghost spell = { field_slots };
@@ -40,7 +40,7 @@ fn print_braced(out: &mut String, fields: &Items<Pair<Text>>) -> Result<(), OutO
         (in_level (opening OpenBrace) (listed_slots CloseBrace field_slots fields.now))) }
 {
     push_mark(out, Mark::OpenBrace)?;
-    print_row(out, Mark::Comma, fields)?;
+    print_separated(out, Mark::Comma, fields)?;
     push_mark(out, Mark::CloseBrace)
 }
 

@@ -5,10 +5,10 @@ ghost use Rattle.cv_syntax.specs.Spelling.{kind_slots, declare_slots, source_slo
 ghost use Rattle.cv_writing.specs.Printing.{Adds};
 
 use crate::print_values::{close_args, print_literal, print_name};
-use crate::rows::{Entry, print_row};
+use crate::separated::{Printable, print_separated};
 use crate::writing::{push_mark, push_name, push_reserved};
 use cv_lex::{Mark, Reserved};
-use cv_syntax::{Aim, Declare, Join, KindName, Source, Statement, Target};
+use cv_syntax::{Aim, Declare, Join, JoinSource, KindName, Statement, Target};
 use cv_token::OutOfMemory;
 use sqlite_items::Items;
 
@@ -38,22 +38,22 @@ fn print_declare(out: &mut String, declare: &Declare) -> Result<(), OutOfMemory>
 }
 
 /// Where a join comes from.
-fn print_source(out: &mut String, source: &Source) -> Result<(), OutOfMemory>
+fn print_source(out: &mut String, source: &JoinSource) -> Result<(), OutOfMemory>
     ensures { OnOk result (Adds (string_bytes out.old) (string_bytes out.new) (source_slots 0 source.now)) }
 {
     match source {
-        Source::Voidport => push_reserved(out, Reserved::Voidport),
-        Source::Own(port) => {
+        JoinSource::Voidport => push_reserved(out, Reserved::Voidport),
+        JoinSource::Own(port) => {
             push_mark(out, Mark::Dot)?;
             push_name(out, port.as_str())
         }
-        Source::Port(actor, port) => {
+        JoinSource::Port(actor, port) => {
             push_name(out, actor.as_str())?;
             push_mark(out, Mark::Dot)?;
             push_name(out, port.as_str())
         }
-        Source::Name(name) => push_name(out, name.as_str()),
-        Source::Literal(literal) => print_literal(out, literal),
+        JoinSource::Name(name) => push_name(out, name.as_str()),
+        JoinSource::Literal(literal) => print_literal(out, literal),
     }
 }
 
@@ -82,7 +82,7 @@ fn print_aim(out: &mut String, aim: &Aim) -> Result<(), OutOfMemory>
     print_target(out, &aim.target)
 }
 
-impl Entry for Aim {
+impl Printable for Aim {
     ghost use Rattle.cv_syntax.specs.Spelling.{aim_slots};
 
     ghost spell = { aim_slots };
@@ -98,7 +98,7 @@ fn print_join(out: &mut String, join: &Join) -> Result<(), OutOfMemory>
 {
     print_source(out, &join.source)?;
     push_mark(out, Mark::Greater)?;
-    print_row(out, Mark::Comma, &join.targets)
+    print_separated(out, Mark::Comma, &join.targets)
 }
 
 /// A declaration or a join.

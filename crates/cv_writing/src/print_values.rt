@@ -8,7 +8,7 @@ ghost use Rattle.cv_syntax.specs.declared.tree.Literal.TheVariants as literals;
 ghost use Rattle.cv_syntax.specs.Spelling.{name_slots, literal_slots, value_slots, arg_slots};
 ghost use Rattle.cv_writing.specs.Printing.{Adds, entry_of, pair_slots};
 
-use crate::rows::{Entry, print_row};
+use crate::separated::{Printable, print_separated};
 use crate::writing::{push_fraction, push_int, push_mark, push_name, push_reserved, push_text};
 use cv_lex::{Mark, Reserved};
 use cv_readers::Name;
@@ -23,7 +23,7 @@ pub(crate) fn print_name(out: &mut String, name: &Name) -> Result<(), OutOfMemor
     push_name(out, name.text.as_str())
 }
 
-impl Entry for Name {
+impl Printable for Name {
     ghost use Rattle.cv_syntax.specs.Spelling.{name_slots};
 
     ghost spell = { name_slots };
@@ -138,7 +138,7 @@ fn print_arg(out: &mut String, arg: &Arg) -> Result<(), OutOfMemory>
     print_value(out, &arg.value)
 }
 
-impl Entry for Arg {
+impl Printable for Arg {
     ghost use Rattle.cv_syntax.specs.Spelling.{arg_slots};
 
     ghost spell = { arg_slots };
@@ -152,6 +152,6 @@ impl Entry for Arg {
 pub(crate) fn close_args(out: &mut String, args: &Items<Arg>) -> Result<(), OutOfMemory>
     ensures { OnOk result (Adds (string_bytes out.old) (string_bytes out.new) (listed_slots CloseParen arg_slots args.now)) }
 {
-    print_row(out, Mark::Comma, args)?;
+    print_separated(out, Mark::Comma, args)?;
     push_mark(out, Mark::CloseParen)
 }

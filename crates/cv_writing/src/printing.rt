@@ -9,7 +9,7 @@ ghost use Rattle.cv_syntax.specs.Asides.{CanBeWritten, ReadsBack};
 use crate::print_rules::print_terms;
 use crate::print_statements::print_statement;
 use crate::print_values::{print_name, print_value};
-use crate::rows::print_row;
+use crate::separated::print_separated;
 use crate::writing::{push_mark, push_reserved};
 use cv_lex::{Mark, Reserved};
 use cv_readers::Name;
@@ -32,7 +32,7 @@ fn print_statements(out: &mut String, statements: &Items<Statement>) -> Result<(
 fn close_names(out: &mut String, names: &Items<Name>, close: Mark) -> Result<(), OutOfMemory>
     ensures { OnOk result (Adds (string_bytes out.old) (string_bytes out.new) (listed_slots close name_slots names.now)) }
 {
-    print_row(out, Mark::Comma, names)?;
+    print_separated(out, Mark::Comma, names)?;
     push_mark(out, close)
 }
 
@@ -82,7 +82,7 @@ fn print_apply(out: &mut String, apply: &Apply) -> Result<(), OutOfMemory>
     ensures { OnOk result (Adds (string_bytes out.old) (string_bytes out.new) (apply_slots apply.now)) }
 {
     push_reserved(out, Reserved::Apply)?;
-    print_row(out, Mark::Comma, &apply.names)?;
+    print_separated(out, Mark::Comma, &apply.names)?;
     push_mark(out, Mark::Colon)?;
     print_terms(out, &apply.terms)
 }

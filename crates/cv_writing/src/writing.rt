@@ -3,7 +3,7 @@
 ghost use Rattle.std.specs.Prelude.{◌≡◌, ◌++◌, ℕ, List, [], ◌∷◌, string_bytes, OnOk};
 ghost use Rattle.cv_lex.specs.declared.lexeme.Lexeme.{Lexeme};
 ghost use Rattle.cv_lex.specs.declared.word.Word.TheVariants as words;
-ghost use Rattle.cv_lex.specs.Spelling.{Spells};
+ghost use Rattle.cv_lex.specs.Spelling.{SpellsLexemes};
 ghost use Rattle.cv_writing.specs.Written.{mark_bytes, reserved_bytes, written, words_in, ReadsAs};
 
 use crate::pieces::{push_quoted, push_space, push_word};
@@ -96,5 +96,5 @@ pub fn push_mark(out: &mut String, mark: Mark) -> Result<(), OutOfMemory>
 
 /// The words of a source, written with a space behind each, are read as the same words.
 pub fn reads_again()
-    ensures { (source : List ℕ) (found : List Lexeme) → Spells 0 source found → ReadsAs (written (words_in source found)) (words_in source found) }
+    ensures { (source : List ℕ) (found : List Lexeme) → SpellsLexemes 0 source found → ReadsAs (written (words_in source found)) (words_in source found) }
 {}

@@ -3,7 +3,7 @@ use Rattle.std.proofs.Common.{◌≡◌, ℕ, pos, List, map, slice_get, Option,
 use Rattle.std.specs.List.{All}
 use Rattle.cv_token.specs.declared.token.Token.TheVariants as tree
 use Rattle.cv_kinds.specs.declared.network.ActorSpec.{ActorSpec}
-use Rattle.cv_kinds.specs.declared.network.Join.{Join}
+use Rattle.cv_kinds.specs.declared.network.Connection.{Connection}
 use Rattle.cv_kinds.specs.Net.{Net}
 use Rattle.cv_kinds.specs.Table.{line_of}
 use Rattle.cv_kinds.specs.WellFormed.{IsSpec, IsWellFormed}
@@ -42,7 +42,7 @@ one_inport (Some a) n m j k e =
     let named = inport_text a.kind n (port_token (line_of a.kind).inports n) j refl in
     same_port n m (sym (inport_known a.kind n named.0 _ named.1 refl) ∙ inport_known a.kind m named.0 _ named.1 e)
 
-one_join : (actors : List ActorSpec) (a b : Join) → Joins actors a → Joins actors b → connection_token actors a ≡ connection_token actors b → a ≡ b
+one_join : (actors : List ActorSpec) (a b : Connection) → Joins actors a → Joins actors b → connection_token actors a ≡ connection_token actors b → a ≡ b
 one_join actors a b j k e =
     let from : a.from ≡ b.from = one_place a.from b.from (both_at _ _ 0 e) in
     let to : a.to ≡ b.to = one_place a.to b.to (both_at _ _ 2 e) in

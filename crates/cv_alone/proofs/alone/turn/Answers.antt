@@ -2,7 +2,7 @@ use Rattle.std.proofs.Common.{◌<◌, Ok, length, ap, subst, ◌∙◌, arith}
 use Rattle.cv_protocol.specs.declared.event.Event.TheVariants as event
 use Rattle.cv_protocol.specs.declared.event.Sent.TheVariants as sent
 use Rattle.cv_node.specs.Counts.{journal_length}
-use Rattle.cv_node.specs.Journalled.{IsReplay, Journalled, Steps}
+use Rattle.cv_node.specs.Journalled.{IsReplay, Journalled, MakesStep}
 use Rattle.cv_alone.specs.Going.{is_prompt}
 use Rattle.cv_alone.specs.Resting.{AllWait}
 use Rattle.cv_alone.proofs.Sweeps.{not_shorter}
@@ -37,7 +37,7 @@ returns c =
     let same = swept.0 ∙ passed.0 in
     let waits = subst (λ (j : Journalled). AllWait j.state c.args.actors c.in_ok-swept.swept.due) passed.0 swept.2 in
     let rest = at_rest c.args.node.now.state c.args.actors c.args.connections c.in_ok-swept.swept.due passed.1 waits in
-    let steps = subst (λ (j : Journalled). Steps j (event.Tick c.in-Some.moment) sent.Nothing c.tick.new.node) same c.in_ok-tick.ensures.ticked in
+    let steps = subst (λ (j : Journalled). MakesStep j (event.Tick c.in-Some.moment) sent.Nothing c.tick.new.node) same c.in_ok-tick.ensures.ticked in
     let few = subst (λ (j : Journalled). length j.entries < journal_length) same c.in_ok-tick.ensures.few in
     let kept = subst (λ (j : Journalled). IsReplay j.base j.state j.entries) same c.in_ok-tick.ensures.replays in
     ticks c.args.node.now c.tick.new.node c.args.actors c.args.connections c.args.most c.in-Some.moment c.requires steps few kept rest

@@ -2,7 +2,7 @@ use Rattle.std.proofs.Common.{◌≡◌, ◌↔◌, ◌<◌, ◌≤◌, ℕ, Lis
 use Rattle.std.proofs.lemmas.Result.{err_from_is_err_and, IfOk-weaker}
 use Rattle.std.specs.Global.{Vec}
 use Rattle.cv_expand.specs.Bodies.{Among}
-use Rattle.cv_kinds.specs.declared.network.Join.{Join}
+use Rattle.cv_kinds.specs.declared.network.Connection.{Connection}
 use Rattle.cv_kinds.specs.Wired.{Rising}
 use Rattle.cv_graph.specs.declared.port.Wire.{Wire}
 use Rattle.cv_graph.specs.declared.ways.Way.{Way}
@@ -67,15 +67,15 @@ returns-clause-connections c =
     let joined : IsJoined c.args.parts.now c.in_ok-joined.joined.wires.items c.in_ok-joined.joined.feeders = record { apart = places_apart parts c.requires.distinct; wires_are = c.in_ok-joined.ensures.wires; indexed = c.in_ok-joined.ensures.feeders } in
     let ends : AreEnded (map (way_of (length c.args.parts.now.actors) c.in_ok-joined.joined.feeders) c.in_ok-joined.joined.wires.items) c.followed-ends.result.items = subst (λ (ws : List Way). AreEnded ws c.followed-ends.result.items) begun c.followed-ends.ensures in
     let known : AreSupplied c.args.parts.now (supplied c.in_ok-joined.joined.feeders c.as_slice.result.now) = subst (λ (ws : List Way). AreSupplied parts (supplied feeders ws)) (sym c.as_slice.ensures.value) (are_supplied parts wires feeders c.followed-ends.result.items joined ends) in
-    IfOk-weaker c.connections_of.result (λ (v : Vec Join). v.items ≡ links_from (supplied c.in_ok-joined.joined.feeders c.as_slice.result.now) 0 (actor_places c.args.parts.now)) (λ (v : Vec Join). (j : Join) → Among v.items j ↔ Connects c.args.parts.now j)
-    (λ v e j. subst (λ (js : List Join). Among js j ↔ Connects parts j) (sym e) (links_connect parts (supplied feeders c.as_slice.result.now) j known)) c.connections_of.ensures.links
+    IfOk-weaker c.connections_of.result (λ (v : Vec Connection). v.items ≡ links_from (supplied c.in_ok-joined.joined.feeders c.as_slice.result.now) 0 (actor_places c.args.parts.now)) (λ (v : Vec Connection). (j : Connection) → Among v.items j ↔ Connects c.args.parts.now j)
+    (λ v e j. subst (λ (js : List Connection). Among js j ↔ Connects parts j) (sym e) (links_connect parts (supplied feeders c.as_slice.result.now) j known)) c.connections_of.ensures.links
 
 pub returns-clause-rising : goal.returns-clause-rising
 returns-clause-rising c =
-    IfOk-weaker c.connections_of.result (λ (v : Vec Join). v.items ≡ links_from (supplied c.in_ok-joined.joined.feeders c.as_slice.result.now) 0 (actor_places c.args.parts.now)) (λ (v : Vec Join). Rising v.items)
+    IfOk-weaker c.connections_of.result (λ (v : Vec Connection). v.items ≡ links_from (supplied c.in_ok-joined.joined.feeders c.as_slice.result.now) 0 (actor_places c.args.parts.now)) (λ (v : Vec Connection). Rising v.items)
     (λ v e. subst Rising (sym e) (links_rising c.args.parts.now (supplied c.in_ok-joined.joined.feeders c.as_slice.result.now))) c.connections_of.ensures.links
 
 pub returns-clause-few : goal.returns-clause-few
 returns-clause-few c =
-    IfOk-weaker c.connections_of.result (λ (v : Vec Join). v.items ≡ links_from (supplied c.in_ok-joined.joined.feeders c.as_slice.result.now) 0 (actor_places c.args.parts.now)) (λ (v : Vec Join). length v.items ≤ 4096)
-    (λ v e. subst (λ (js : List Join). length js ≤ 4096) (sym e) (few_links c.args.parts.now (supplied c.in_ok-joined.joined.feeders c.as_slice.result.now) c.requires)) c.connections_of.ensures.links
+    IfOk-weaker c.connections_of.result (λ (v : Vec Connection). v.items ≡ links_from (supplied c.in_ok-joined.joined.feeders c.as_slice.result.now) 0 (actor_places c.args.parts.now)) (λ (v : Vec Connection). length v.items ≤ 4096)
+    (λ v e. subst (λ (js : List Connection). length js ≤ 4096) (sym e) (few_links c.args.parts.now (supplied c.in_ok-joined.joined.feeders c.as_slice.result.now) c.requires)) c.connections_of.ensures.links

@@ -1,5 +1,5 @@
 use Rattle.std.proofs.Common.{List, [], ◌∷◌, ◌++◌, take, sym, ap, ◌∙◌}
-use Rattle.cv_kinds.specs.declared.network.Join.{Join}
+use Rattle.cv_kinds.specs.declared.network.Connection.{Connection}
 use Rattle.cv_kinds.specs.Wired.{Joins}
 use Rattle.cv_network.specs.Written.{connection_token}
 use Rattle.cv_network.proofs.Images.{none_some, some_same, stands_at}
@@ -17,4 +17,4 @@ loop-item-preserved c = λ joins few all e.
     let i = c.loop-item.item-index in
     let s = stands_at (Joins actors) (connection_token actors) c.args.items.now i c.item-item.result joins c.loop-item-test.true c.item-item.is all e in
     let same = some_same c.in-Some.join s.value (sym c.in-Some.is ∙ c.join_of.ensures s.value few s.valid s.tree) in
-    c.in_ok-push.ensures.items ∙ ap (λ (xs : List Join). xs ++ c.in-Some.join ∷ []) (c.loop-item.invariant joins few all e) ∙ ap (λ (j : Join). take i joins ++ j ∷ []) same ∙ sym s.next
+    c.in_ok-push.ensures.items ∙ ap (λ (xs : List Connection). xs ++ c.in-Some.join ∷ []) (c.loop-item.invariant joins few all e) ∙ ap (λ (j : Connection). take i joins ++ j ∷ []) same ∙ sym s.next

@@ -1,10 +1,10 @@
 use Rattle.std.proofs.Common.{◌≡◌, ◌≤◌, List, length, map, take}
 use Rattle.std.specs.List.{All}
-use Rattle.cv_kinds.specs.declared.network.Join.{Join}
+use Rattle.cv_kinds.specs.declared.network.Connection.{Connection}
 use Rattle.cv_kinds.specs.Wired.{Joins}
 use Rattle.cv_network.specs.Written.{connection_token}
 use Rattle.cv_network.proofs.joins.joins_of.Given as goal
 
 -- of connections that have these trees the first ones
 abbrev pub invariant-loop-item : goal.invariant-loop-item
-invariant-loop-item l = (joins : List Join) → length l.actors ≤ 256 → All (Joins l.actors) joins → l.items ≡ map (connection_token l.actors) joins → l.joins.items ≡ take l.item-index joins
+invariant-loop-item l = (joins : List Connection) → length l.actors ≤ 256 → All (Joins l.actors) joins → l.items ≡ map (connection_token l.actors) joins → l.joins.items ≡ take l.item-index joins

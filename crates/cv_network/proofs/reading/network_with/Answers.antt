@@ -2,7 +2,7 @@ use Rattle.std.proofs.Common.{◌≡◌, ◌≤◌, List, length, map, sym, ap, 
 use Rattle.std.specs.Global.{Vec}
 use Rattle.std.specs.List.{All}
 use Rattle.cv_kinds.specs.declared.network.ActorSpec.{ActorSpec}
-use Rattle.cv_kinds.specs.declared.network.Join.{Join}
+use Rattle.cv_kinds.specs.declared.network.Connection.{Connection}
 use Rattle.cv_kinds.specs.Wired.{Joins}
 use Rattle.cv_kinds.proofs.Wires.{joins_of}
 use Rattle.cv_network.specs.Written.{connection_token}
@@ -16,7 +16,7 @@ returns-in_default-3 c = λ net whole a j.
     let few = subst (λ (xs : List ActorSpec). length xs ≤ 256) slice whole.small.few_actors in
     let all = subst (λ (xs : List ActorSpec). All (Joins xs) net.connections) slice (joins_of net.actors net.connections whole.wired) in
     let trees = c.as_slice-3.ensures ∙ one_list _ _ (sym c.in-List-List.is-1 ∙ j) ∙ ap (λ (xs : List ActorSpec). map (connection_token xs) net.connections) slice in
-    absurd (unknown (λ (v : Vec Join). v.items ≡ net.connections) c.in_ok-joins.field-0 c.in_default-3.is (c.in_ok-joins.ensures net.connections few all trees))
+    absurd (unknown (λ (v : Vec Connection). v.items ≡ net.connections) c.in_ok-joins.field-0 c.in_default-3.is (c.in_ok-joins.ensures net.connections few all trees))
 
 pub returns : goal.returns
 returns c = λ net whole a j.
@@ -25,5 +25,5 @@ returns c = λ net whole a j.
     let few = subst (λ (xs : List ActorSpec). length xs ≤ 256) slice whole.small.few_actors in
     let all = subst (λ (xs : List ActorSpec). All (Joins xs) net.connections) slice (joins_of net.actors net.connections whole.wired) in
     let trees = c.as_slice-3.ensures ∙ one_list _ _ (sym c.in-List-List.is-1 ∙ j) ∙ ap (λ (xs : List ActorSpec). map (connection_token xs) net.connections) slice in
-    let joins = known (λ (v : Vec Join). v.items ≡ net.connections) c.in_ok-joins.field-0 c.in-Some-2.joins c.in-Some-2.is (c.in_ok-joins.ensures net.connections few all trees) in
+    let joins = known (λ (v : Vec Connection). v.items ≡ net.connections) c.in_ok-joins.field-0 c.in-Some-2.joins c.in-Some-2.is (c.in_ok-joins.ensures net.connections few all trees) in
     made_is c.of.result net _ (λ i. record { actors = actors i; connections = joins i }) whole c.of.ensures.made c.of.ensures.exact

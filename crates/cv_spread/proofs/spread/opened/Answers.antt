@@ -7,7 +7,7 @@ use Rattle.cv_link.specs.declared.items.Item.{Item}
 use Rattle.cv_merge.specs.Lanes.{Ascends}
 use Rattle.cv_cluster.specs.Cluster.{ClusterView}
 use Rattle.cv_cluster.specs.Opening.{AllAmong, AllAreForNodes, AllItemsFit, AllUnused, Opens, new_node}
-use Rattle.cv_spread.specs.Placing.{node_specs, place_of, places}
+use Rattle.cv_spread.specs.Placing.{node_specs, home_node, places}
 use Rattle.cv_spread.proofs.Starting.{items_fit, numbers_rise, opened_all, places_among, places_length, specs_fit, unused}
 use Rattle.cv_spread.proofs.spread.opened.Goals as goal
 
@@ -32,9 +32,9 @@ open-requires-clause-unused c =
     subst (λ (old : ClusterView). AllUnused old.nodes) (sym c.in_ok-cluster.ensures) (unused c.in_ok-specs.specs.items)
 
 -- the places are those of the network's actors
-placed : (nodes : ℕ) (net : Net) (actors : List ActorSpec) (made at : List ℕ) → actors ≡ net.actors → made ≡ map (place_of nodes) (range_with_len 0 (length actors)) → at ≡ made → at ≡ places nodes net
+placed : (nodes : ℕ) (net : Net) (actors : List ActorSpec) (made at : List ℕ) → actors ≡ net.actors → made ≡ map (home_node nodes) (range_with_len 0 (length actors)) → at ≡ made → at ≡ places nodes net
 placed nodes net actors made at all is same =
-    same ∙ is ∙ ap (λ (xs : List ActorSpec). map (place_of nodes) (range_with_len 0 (length xs))) all
+    same ∙ is ∙ ap (λ (xs : List ActorSpec). map (home_node nodes) (range_with_len 0 (length xs))) all
 
 pub open-requires-clause-places : goal.open-requires-clause-places
 open-requires-clause-places c =

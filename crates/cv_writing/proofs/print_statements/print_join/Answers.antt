@@ -9,8 +9,8 @@ pub returns : goal.returns
 returns c =
     let join = c.args.join.now in
     let aims = sep_slots Comma aim_slots join.targets in
-    on_ok c.print_row.result
+    on_ok c.print_separated.result
     (λ h. adds_both _ _ _ (source_slots join.at join.source) (mark Greater ∷ aims)
     (c.in_ok-print_source.ensures ∙ ap (λ z. string_bytes c.args.out.now ++ z) (sym (source_anywhere join.at join.source)))
     (adds_both _ _ _ (mark Greater ∷ []) aims c.in_ok-push_mark.ensures h))
-    c.print_row.ensures
+    c.print_separated.ensures

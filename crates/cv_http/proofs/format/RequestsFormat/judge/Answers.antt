@@ -1,6 +1,6 @@
 use Rattle.std.proofs.Common.{◌≡◌, ℕ, ◌+◌, ◌-◌, take, drop, ap, ◌∙◌, arith}
 use Rattle.cv_feed.proofs.Reading.{waits_next}
-use Rattle.cv_http.specs.Requests.{Spells, Due}
+use Rattle.cv_http.specs.Requests.{SpellsRequest, Due}
 use Rattle.cv_http.proofs.FrontLemmas.{sized, waits_body, request_of}
 use Rattle.cv_http.proofs.format.RequestsFormat.judge.Goals as goal
 
@@ -29,4 +29,4 @@ returns-in_ok-request-in-Head-clause-message c =
 pub returns-in-More-clause-need : goal.returns-in-More-clause-need
 returns-in-More-clause-need c =
     let more = c.in-More.ensures.more in
-    (omega arith, omega (arith, more.1), waits_next Spells Due c.args.bytes.now more.0)
+    (omega arith, omega (arith, more.1), waits_next SpellsRequest Due c.args.bytes.now more.0)

@@ -5,7 +5,7 @@ use Rattle.cv_kinds.specs.Net.{Net}
 use Rattle.cv_protocol.specs.declared.event.Step.{Step}
 use Rattle.cv_solo.specs.OneRuntime.{solo_from}
 use Rattle.cv_top.specs.Printed.{firing_of, firings_of}
-use Rattle.cv_top.proofs.running.replayed.Goals as goal
+use Rattle.cv_top.proofs.running.replay.Goals as goal
 
 pub loop-step-preserved : goal.loop-step-preserved
 loop-step-preserved c =

@@ -1,7 +1,7 @@
 use Rattle.std.proofs.Common.{◌≡◌, drop, Some}
 use Rattle.cv_solo.specs.OneRuntime.{Runtime, solo, solo_from}
 use Rattle.cv_top.specs.Printed.{firings_of}
-use Rattle.cv_top.proofs.running.replayed.Given as goal
+use Rattle.cv_top.proofs.running.replay.Given as goal
 
 abbrev pub invariant-loop-step : goal.invariant-loop-step
 invariant-loop-step l = record {

@@ -11,7 +11,7 @@ use cv_token::OutOfMemory;
 use sqlite_items::Items;
 
 /// What rows are made of: `spell` says which words are printed of it.
-pub(crate) trait Entry: Sized + Drop {
+pub(crate) trait Printable: Sized + Drop {
     ghost spell: { Self → List Slot };
 
     /// The item, whatever its place.
@@ -20,7 +20,7 @@ pub(crate) trait Entry: Sized + Drop {
 }
 
 /// Items with this mark between them.
-pub(crate) fn print_row<T: Entry>(
+pub(crate) fn print_separated<T: Printable>(
     out: &mut String,
     mark: Mark,
     row: &Items<T>,

@@ -4,7 +4,7 @@ use Rattle.std.specs.Str.{bytes_eq}
 use Rattle.std.proofs.lemmas.Slice.Eq.{bytes_eq-Decides}
 use Rattle.std.proofs.lemmas.Map.Text.{btree_map_updates_text}
 use Rattle.cv_expand.proofs.Lookups.{added, none_from}
-use Rattle.cv_expand.proofs.named.noted.Goals as goal
+use Rattle.cv_expand.proofs.named.note_name.Goals as goal
 
 pub returns : goal.returns
 returns c = λ n.

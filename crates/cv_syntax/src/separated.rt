@@ -9,19 +9,19 @@ use cv_readers::{Name, Stop, skip_mark, take_mark, take_name};
 use sqlite_items::Items;
 use std::alloc::Global;
 
-/// What rows are made of: `entry_at` says what is read of it. The trait stands in this crate, since
+/// What rows are made of: `readable_at` says what is read of it. The trait stands in this crate, since
 /// it has impls for types of other crates.
-pub(crate) trait Entry: Sized + Drop {
-    ghost entry_at: { Reader Self };
+pub(crate) trait Readable: Sized + Drop {
+    ghost readable_at: { Reader Self };
 
     /// The item that has to stand first, and the words behind it.
     fn read(alloc: Global, words: &[Placed]) -> Result<(Self, &[Placed]), Stop>
-        ensures value { Gives result (entry_at words.now) }
+        ensures value { Gives result (readable_at words.now) }
         ensures shorter { IfOk result (λ p. length p.1.now < length words.now) };
 }
 
-impl Entry for Name {
-    ghost entry_at = { name_at };
+impl Readable for Name {
+    ghost readable_at = { name_at };
 
     fn read(alloc: Global, words: &[Placed]) -> Result<(Name, &[Placed]), Stop> {
         take_name(alloc, words)
@@ -30,12 +30,12 @@ impl Entry for Name {
 
 /// Items with this mark between them.
 #[tactic(auto, unfolding(cv_readers::specs::Combining::sep))]
-pub(crate) fn read_row<T: Entry>(
+pub(crate) fn read_separated<T: Readable>(
     alloc: Global,
     mark: Mark,
     words: &[Placed],
 ) -> Result<(Items<T>, &[Placed]), Stop>
-    ensures value { Gives result (sep mark T.entry_at words.now) }
+    ensures value { Gives result (sep mark T.readable_at words.now) }
     ensures shorter { IfOk result (λ p. length p.1.now < length words.now) }
 {
     let (first, mut rest) = T::read(alloc, words)?;
@@ -51,18 +51,18 @@ pub(crate) fn read_row<T: Entry>(
 
 /// Items with commas between them, or none, up to the mark that closes them.
 #[tactic(auto, unfolding(cv_readers::specs::Combining::listed))]
-pub(crate) fn read_listed<T: Entry>(
+pub(crate) fn read_listed<T: Readable>(
     alloc: Global,
     close: Mark,
     words: &[Placed],
 ) -> Result<(Items<T>, &[Placed]), Stop>
-    ensures value { Gives result (listed close T.entry_at words.now) }
+    ensures value { Gives result (listed close T.readable_at words.now) }
     ensures shorter { IfOk result (λ p. length p.1.now < length words.now) }
 {
     if let Some(rest) = skip_mark(close, words) {
         return Ok((Items::new(alloc), rest));
     }
-    let (row, rest) = read_row(alloc, Mark::Comma, words)?;
+    let (row, rest) = read_separated(alloc, Mark::Comma, words)?;
     let rest = take_mark(close, rest)?;
     Ok((row, rest))
 }

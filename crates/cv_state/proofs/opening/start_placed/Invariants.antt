@@ -1,7 +1,7 @@
 use Rattle.std.proofs.Common.{◌≡◌, drop}
 use Rattle.std.specs.FinMap as map
 use Rattle.cv_state.specs.Opening.{all_placed}
-use Rattle.cv_state.proofs.opening.placed.Given as goal
+use Rattle.cv_state.proofs.opening.start_placed.Given as goal
 
 abbrev pub invariant-loop-place : goal.invariant-loop-place
 invariant-loop-place l =

@@ -1,4 +1,4 @@
-//! `Source`: what is left of one journal.
+//! `Unmerged`: what is left of one journal.
 
 ghost use Rattle.std.specs.Prelude.{◌≡◌, [], ◌∷◌, MatchOption, option_map};
 ghost use Rattle.cv_merge.specs.Choice.{first_stamp};
@@ -9,12 +9,12 @@ use std::marker::Model;
 
 /// The entries of a node that are left.
 #[derive(Drop)]
-pub struct Source {
+pub struct Unmerged {
     node: u16,
     entries: VecDeque<Entry>,
 }
 
-impl Model for Source {
+impl Model for Unmerged {
     ghost use Rattle.cv_merge.specs.Lanes.{Lane, lane_code};
 
     ghost Value = { Lane };
@@ -24,12 +24,12 @@ impl Model for Source {
     ghost view = { λ s. record { node = s.node; entries = s.entries.items } };
 }
 
-impl Source {
+impl Unmerged {
     /// The whole journal of a node.
-    pub fn new(node: u16, entries: Vec<Entry>) -> Source
+    pub fn new(node: u16, entries: Vec<Entry>) -> Unmerged
         ensures { result ≡ record { node = node; entries = entries.items } }
     {
-        Source {
+        Unmerged {
             node,
             entries: VecDeque::from_vec(entries),
         }
