@@ -3,70 +3,27 @@
 ghost use Rattle.std.specs.Prelude.{◌≡◌, length, true, IfOk};
 ghost use Rattle.cv_mesh.specs.Moving.{AreMeshed, Goes};
 
-use cv_flow::FlowKind;
+use cv_fixtures::{constant_to_print, node_spec};
 use cv_io::OpenGate;
-use cv_kinds::{ActorSpec, Connection, Kind, Network};
+use cv_kinds::Network;
 use cv_link::Item;
 use cv_mesh::join_all;
 use cv_node::Node;
-use cv_protocol::Event;
-use cv_rules::{Attrs, NodeSpec};
+use cv_node_fixtures::letters;
 use cv_settle::settle;
 use cv_station::Station;
-use cv_token::{AppId, Items, OutOfMemory, Text, Token};
-use std::alloc::{AllocError, Global};
+use cv_token::{AppId, OutOfMemory};
+use std::alloc::Global;
 use std::process::Abort;
 use std::test::Fail;
 
 const APP: AppId = AppId { node: 1, seq: 1 };
 
-const JOIN: Connection = Connection {
-    from: 0,
-    out: 0,
-    to: 1,
-    inp: 0,
-};
-
-fn text(alloc: Global, it: &str) -> Result<Text, OutOfMemory> {
-    Ok(Text::from_string(String::from_str(alloc, it)?))
-}
-
-/// `src : std.Constant(data=7, n=3)`, `snk : io.Print()`, `src.token > snk.token`.
-fn network(alloc: Global) -> Result<Network, OutOfMemory> {
-    let mut args = Items::new(alloc);
-    args.push(Token::Int(7))?;
-    args.push(Token::Int(3))?;
-    let src = ActorSpec {
-        path: text(alloc, "src")?,
-        kind: Kind::Flow(FlowKind::Constant),
-        args,
-    };
-    let snk = ActorSpec {
-        path: text(alloc, "snk")?,
-        kind: Kind::Flow(FlowKind::Print),
-        args: Items::new(alloc),
-    };
-    let mut actors = Vec::new(alloc);
-    actors.push(src)?;
-    actors.push(snk)?;
-    let mut joins = Vec::new(alloc);
-    joins.push(JOIN)?;
-    match Network::of(alloc, actors, joins)? {
-        Some(net) => Ok(net),
-        None => Err(AllocError),
-    }
-}
-
 /// A node of two; the source lives at the first one, the sink at the second one.
 fn node(alloc: Global, no: u16, net: &Network) -> Result<Node, OutOfMemory>
     requires { length net.now.actors ≡ 2 }
 {
-    let spec = NodeSpec {
-        no: no.clamp(1, 2),
-        room: 1024,
-        window: 1,
-        attrs: Attrs::new(alloc),
-    };
+    let spec = node_spec(alloc, no.clamp(1, 2), 1024);
     Node::open(alloc, spec, APP, net, &[1, 2])
 }
 
@@ -74,10 +31,7 @@ fn node(alloc: Global, no: u16, net: &Network) -> Result<Node, OutOfMemory>
 fn stations(alloc: Global, items: &[Item]) -> Result<Vec<Station>, OutOfMemory>
     ensures { IfOk result (λ stations. AreMeshed stations.items) }
 {
-    let net = network(alloc)?;
-    if net.actors().len() != 2 {
-        return Err(AllocError);
-    }
+    let net = constant_to_print(alloc, 3)?;
     let mut nodes = Vec::new(alloc);
     nodes.push(node(alloc, 1, &net)?)?;
     nodes.push(node(alloc, 2, &net)?)?;
@@ -101,28 +55,6 @@ fn play_each(alloc: Global, stations: &mut [Station])
     for place in 0..stations.len() {
         play(alloc, &mut stations[place]);
     }
-}
-
-/// The letters of the journal's entries.
-fn letter(event: &Event) -> char {
-    match event {
-        Event::Peek { .. } => 'p',
-        Event::Fire { .. } => 'F',
-        Event::Pass { .. } => 'P',
-        Event::Send { .. } => 'S',
-        Event::Rewind { .. } => 'R',
-        Event::Lose { .. } => 'L',
-        Event::Deliver { .. } => 'D',
-        _ => '?',
-    }
-}
-
-fn letters(alloc: Global, node: &Node) -> Result<String, OutOfMemory> {
-    let mut letters = String::new(alloc);
-    for entry in &node.journal().entries {
-        letters.push(letter(&entry.event))?;
-    }
-    Ok(letters)
 }
 
 /// What both journals say after a round of each station, and a settle.

@@ -215,9 +215,7 @@ rx_field : IsSend (rx.the_field).row
 rx_field = search (frame_send, ends.the_send, plans.the_send, crosses, sendable) depth 60 fits 20000
 
 peer_send : IsSend peer.the_row
-peer_send =
-    recorded_send (peer.the_field).row _ _ (peer.the_type).to_one
-    (struct_send (fields peer.the_type) (plain_send _ _ _ _ _, (tx_field, (rx_field, tt))))
+peer_send = search (tx_field, rx_field, frame_send, crosses, sendable) depth 60 fits 20000
 
 pub station_send : IsSend station.the_row
 station_send = search (peer_send, node_send, crosses, sendable) depth 60 fits 20000

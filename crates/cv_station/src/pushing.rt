@@ -22,6 +22,7 @@ fn place_of(peers: &[Peer], no: u16) -> Option<usize>
 }
 
 /// Pushes a frame that is addressed to the peer; it is dropped where the ring takes none.
+#[tactic(auto, using(crate::proofs::Pushes::works_told))]
 fn push_to(peer: &mut Peer, frame: Frame)
     requires { frame.to ≡ peer.old.no }
     ensures { PeerWorks (frame ∷ []) [] [] peer.old peer.new }

@@ -1,16 +1,16 @@
 //! A constant at node 1 and a sink that moved to node 2: frames travel, and tokens arrive.
 
-use cv_flow::FlowKind;
+use cv_fixtures::{constant_to_print, node_spec, text};
 use cv_io::OpenGate;
-use cv_kinds::{ActorSpec, Connection, Kind, Network};
 use cv_link::{Item, LinkItems, Pair};
 use cv_node::Node;
+use cv_node_fixtures::letters;
 use cv_protocol::{Event, Sent};
-use cv_rules::{Attrs, NodeSpec};
+use cv_rules::Attrs;
 use cv_station::{Peer, Station};
-use cv_token::{ActorId, AppId, Items, OutOfMemory, Text, Token};
+use cv_token::{ActorId, AppId, OutOfMemory};
 use sqlite_items::Boxed;
-use std::alloc::{AllocError, Global};
+use std::alloc::Global;
 use std::process::Abort;
 use std::test::Fail;
 
@@ -18,54 +18,8 @@ const APP: AppId = AppId { node: 1, seq: 1 };
 
 const SINK: ActorId = ActorId { app: APP, actor: 1 };
 
-const JOIN: Connection = Connection {
-    from: 0,
-    out: 0,
-    to: 1,
-    inp: 0,
-};
-
-fn text(alloc: Global, it: &str) -> Result<Text, OutOfMemory> {
-    Ok(Text::from_string(String::from_str(alloc, it)?))
-}
-
-/// `src : std.Constant(data=7, n=tokens)`, `snk : io.Print()`, `src.token > snk.token`.
-fn network(alloc: Global, tokens: i64) -> Result<Network, OutOfMemory> {
-    let mut args = Items::new(alloc);
-    args.push(Token::Int(7))?;
-    args.push(Token::Int(tokens))?;
-    let src = ActorSpec {
-        path: text(alloc, "src")?,
-        kind: Kind::Flow(FlowKind::Constant),
-        args,
-    };
-    let snk = ActorSpec {
-        path: text(alloc, "snk")?,
-        kind: Kind::Flow(FlowKind::Print),
-        args: Items::new(alloc),
-    };
-    let mut actors = Vec::new(alloc);
-    actors.push(src)?;
-    actors.push(snk)?;
-    let mut joins = Vec::new(alloc);
-    joins.push(JOIN)?;
-    match Network::of(alloc, actors, joins)? {
-        Some(net) => Ok(net),
-        None => Err(AllocError),
-    }
-}
-
 fn node(alloc: Global, no: u16) -> Result<Node, OutOfMemory> {
-    let number = no.clamp(1, 2);
-    Node::new(
-        alloc,
-        NodeSpec {
-            no: number,
-            room: 1024,
-            window: 1,
-            attrs: Attrs::new(alloc),
-        },
-    )
+    Node::new(alloc, node_spec(alloc, no.clamp(1, 2), 1024))
 }
 
 fn station(node: Node, peers: Vec<Peer>, quota: u32) -> Station {
@@ -117,7 +71,7 @@ fn stations(alloc: Global, item: Item, quota: u32) -> Result<(Station, Station),
 /// Deploys the network on node 1, and sends the sink on its way to node 2.
 fn start(rt: &impl Abort, alloc: Global, one: &mut Station, tokens: i64) -> Result<(), Fail> {
     let name = text(alloc, "run")?;
-    let net = Boxed::new(alloc, network(alloc, tokens)?)?;
+    let net = Boxed::new(alloc, constant_to_print(alloc, tokens)?)?;
     one.node.step(alloc, Event::Deploy { name, net })?;
     let attrs = Attrs::new(alloc);
     one.node.step(alloc, Event::Meet { node: 2, attrs })?;
@@ -144,30 +98,6 @@ fn rounds(alloc: Global, one: &mut Station, two: &mut Station, rounds: u32) -> (
         second = second.saturating_add(two.fired);
     }
     (first, second)
-}
-
-/// The letters of the journal's entries.
-fn letter(event: &Event) -> char {
-    match event {
-        Event::Meet { .. } => 'm',
-        Event::Deploy { .. } => 'd',
-        Event::Peek { .. } => 'p',
-        Event::Fire { .. } => 'F',
-        Event::Pass { .. } => 'P',
-        Event::Send { .. } => 'S',
-        Event::Freeze { .. } => 'f',
-        Event::Lose { .. } => 'L',
-        Event::Deliver { .. } => 'D',
-        _ => '?',
-    }
-}
-
-fn letters(alloc: Global, node: &Node) -> Result<String, OutOfMemory> {
-    let mut letters = String::new(alloc);
-    for entry in &node.journal().entries {
-        letters.push(letter(&entry.event))?;
-    }
-    Ok(letters)
 }
 
 /// What both journals say after so many rounds, and how many firings each node made.
