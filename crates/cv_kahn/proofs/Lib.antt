@@ -1,7 +1,7 @@
 pub mod Rows
 pub mod Alone
 pub mod Family
-pub mod Fits
+pub mod Mirrors
 pub mod Turned
 pub mod Follows
 pub mod Kahn

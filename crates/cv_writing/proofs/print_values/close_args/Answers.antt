@@ -6,4 +6,4 @@ use Rattle.cv_writing.proofs.Prints.{on_ok, adds_both}
 use Rattle.cv_writing.proofs.print_values.close_args.Goals as goal
 
 pub returns : goal.returns
-returns c = on_ok c.push_mark.result (adds_both _ _ _ (sep_slots Comma arg_slots c.args.args.now) (mark CloseParen ∷ []) c.in_ok-print_row.ensures) c.push_mark.ensures
+returns c = on_ok c.push_mark.result (adds_both _ _ _ (sep_slots Comma arg_slots c.args.args.now) (mark CloseParen ∷ []) c.in_ok-print_separated.ensures) c.push_mark.ensures

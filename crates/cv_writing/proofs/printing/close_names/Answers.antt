@@ -6,4 +6,4 @@ use Rattle.cv_writing.proofs.Prints.{on_ok, adds_both}
 use Rattle.cv_writing.proofs.printing.close_names.Goals as goal
 
 pub returns : goal.returns
-returns c = on_ok c.push_mark.result (adds_both _ _ _ (sep_slots Comma name_slots c.args.names.now) (mark c.args.close ∷ []) c.in_ok-print_row.ensures) c.push_mark.ensures
+returns c = on_ok c.push_mark.result (adds_both _ _ _ (sep_slots Comma name_slots c.args.names.now) (mark c.args.close ∷ []) c.in_ok-print_separated.ensures) c.push_mark.ensures

@@ -14,5 +14,5 @@ returns c =
     let terms = terms_slots a.terms in
     on_ok c.print_terms.result
     (λ h. adds_both _ _ _ (placed (words.Reserved reserved.Apply) a.at ∷ []) (names ++ mark Colon ∷ terms) c.in_ok-push_reserved.ensures
-    (adds_both _ _ _ names (mark Colon ∷ terms) c.in_ok-print_row.ensures (adds_both _ _ _ (mark Colon ∷ []) terms c.in_ok-push_mark.ensures h)))
+    (adds_both _ _ _ names (mark Colon ∷ terms) c.in_ok-print_separated.ensures (adds_both _ _ _ (mark Colon ∷ []) terms c.in_ok-push_mark.ensures h)))
     c.print_terms.ensures
