@@ -127,17 +127,17 @@ impl Live {
         alloc: Global,
         id: ActorId,
         spec: &ActorSpec,
-        joins: &[Connection],
+        connections: &[Connection],
         now: u64,
     ) -> Result<Live, OutOfMemory>
-        requires few { length joins.now ≤ 4096 }
+        requires few { length connections.now ≤ 4096 }
         requires moment { first_due spec.now now < 2 ^ 62 }
-        ensures { IfOk result (λ live. live ≡ new_live id.app joins.now id.actor spec.now now) }
+        ensures { IfOk result (λ live. live ≡ new_live id.app connections.now id.actor spec.now now) }
     {
         let spec = spec.copy(alloc)?;
         let slots = spec.kind.start(alloc, &spec.args)?;
-        let ins = new_inlets(alloc, id, joins, spec.kind.inports())?;
-        let outs = new_outs(alloc, id, joins, spec.kind.outports())?;
+        let ins = new_inlets(alloc, id, connections, spec.kind.inports())?;
+        let outs = new_outs(alloc, id, connections, spec.kind.outports())?;
         let due = now + spec.kind.pause(&spec.args);
         Ok(Live {
             id,

@@ -16,15 +16,15 @@ const QUEUE_LENGTH: u16 = 4;
 pub(crate) fn new_inlets(
     alloc: Global,
     id: ActorId,
-    joins: &[Connection],
+    connections: &[Connection],
     count: u8,
 ) -> Result<Vec<Option<Inlet>>, OutOfMemory>
-    requires { length joins.now ≤ 4096 }
-    ensures { IfOk result (λ ins. ins.items ≡ inlets_of id.app joins.now id.actor 0 count) }
+    requires { length connections.now ≤ 4096 }
+    ensures { IfOk result (λ ins. ins.items ≡ inlets_of id.app connections.now id.actor 0 count) }
 {
     let mut ins = Vec::with_capacity(alloc, usize::from(count))?;
     for port in 0..count {
-        ins.push(new_inlet(alloc, id, joins, port)?)?;
+        ins.push(new_inlet(alloc, id, connections, port)?)?;
     }
     Ok(ins)
 }
@@ -33,14 +33,14 @@ pub(crate) fn new_inlets(
 fn new_inlet(
     alloc: Global,
     id: ActorId,
-    joins: &[Connection],
+    connections: &[Connection],
     port: u8,
 ) -> Result<Option<Inlet>, OutOfMemory>
-    requires { length joins.now ≤ 4096 }
-    ensures { IfOk result (λ inlet. inlet ≡ inlet_of id.app 0 joins.now id.actor port) }
+    requires { length connections.now ≤ 4096 }
+    ensures { IfOk result (λ inlet. inlet ≡ inlet_of id.app 0 connections.now id.actor port) }
 {
-    for (place, join) in joins.iter().enumerate() {
-        if join.to == id.actor && join.inp == port {
+    for (place, connection) in connections.iter().enumerate() {
+        if connection.to == id.actor && connection.inp == port {
             return Ok(Some(Inlet {
                 conn: ConnId {
                     app: id.app,
@@ -48,7 +48,7 @@ fn new_inlet(
                 },
                 producer: ActorId {
                     app: id.app,
-                    actor: join.from,
+                    actor: connection.from,
                 },
                 port: InPort::new(alloc, QUEUE_LENGTH)?,
             }));
@@ -61,15 +61,15 @@ fn new_inlet(
 pub(crate) fn new_outs(
     alloc: Global,
     id: ActorId,
-    joins: &[Connection],
+    connections: &[Connection],
     count: u8,
 ) -> Result<Vec<OutPort>, OutOfMemory>
-    requires { length joins.now ≤ 4096 }
-    ensures { IfOk result (λ outs. outs.items ≡ outs_of id.app joins.now id.actor 0 count) }
+    requires { length connections.now ≤ 4096 }
+    ensures { IfOk result (λ outs. outs.items ≡ outs_of id.app connections.now id.actor 0 count) }
 {
     let mut outs = Vec::with_capacity(alloc, usize::from(count))?;
     for port in 0..count {
-        let readers = new_readers(alloc, id, joins, port)?;
+        let readers = new_readers(alloc, id, connections, port)?;
         outs.push(OutPort::new(alloc, QUEUE_LENGTH, readers)?)?;
     }
     Ok(outs)
@@ -79,15 +79,15 @@ pub(crate) fn new_outs(
 fn new_readers(
     alloc: Global,
     id: ActorId,
-    joins: &[Connection],
+    connections: &[Connection],
     port: u8,
 ) -> Result<Readers, OutOfMemory>
-    requires { length joins.now ≤ 4096 }
-    ensures { IfOk result (λ readers. readers ≡ readers_of id.app 0 joins.now id.actor port) }
+    requires { length connections.now ≤ 4096 }
+    ensures { IfOk result (λ readers. readers ≡ readers_of id.app 0 connections.now id.actor port) }
 {
     let mut readers = Readers::new(alloc);
-    for (place, join) in joins.iter().enumerate() {
-        if join.from == id.actor && join.out == port {
+    for (place, connection) in connections.iter().enumerate() {
+        if connection.from == id.actor && connection.out == port {
             readers.push(Subscription {
                 conn: ConnId {
                     app: id.app,
@@ -95,7 +95,7 @@ fn new_readers(
                 },
                 consumer: ActorId {
                     app: id.app,
-                    actor: join.to,
+                    actor: connection.to,
                 },
                 acked: 0,
             })?;

@@ -19,7 +19,7 @@ fn started(
     alloc: Global,
     kind: FlowKind,
     args: &[i64],
-    joins: &[Connection],
+    connections: &[Connection],
 ) -> Result<Live, Fail> {
     let mut items = Items::new(alloc);
     for arg in args {
@@ -30,10 +30,10 @@ fn started(
         kind: Kind::Flow(kind),
         args: items,
     };
-    assert!(rt; joins.len() <= 9);
+    assert!(rt; connections.len() <= 9);
     assert!(rt; spec.kind.pause(&spec.args) < 1000);
     let id = ActorId { app: APP, actor: 0 };
-    Ok(Live::start(alloc, id, &spec, joins, 0)?)
+    Ok(Live::start(alloc, id, &spec, connections, 0)?)
 }
 
 fn offer(rt: &impl Abort, live: &mut Live, port: u8, n: u64, token: Token) -> bool {

@@ -10,7 +10,7 @@ use cv_token::{Items, OutOfMemory, Token};
 use std::alloc::Global;
 
 /// A token equal to the one at that place, or null where there is none. The only error is want of memory.
-pub fn copied(alloc: Global, items: &Items, at: usize) -> Result<Token, OutOfMemory>
+pub fn copy_at(alloc: Global, items: &Items, at: usize) -> Result<Token, OutOfMemory>
     ensures { IfOk result (λ t. t ≡ item_of items.now at) }
 {
     match items.get(at) {

@@ -40,7 +40,7 @@ pub fn is_whole(items: &Items, at: usize) -> bool
 }
 
 /// The sum, or null past 64 signed bits.
-pub fn added(a: i64, b: i64) -> Token
+pub fn add(a: i64, b: i64) -> Token
     ensures { result ≡ number (a +ℤ b) }
 {
     match a.checked_add(b) {
@@ -50,17 +50,17 @@ pub fn added(a: i64, b: i64) -> Token
 }
 
 /// The number after that of the slot, or null where the slot is no number or the next is past 64 signed bits.
-pub fn following(items: &Items, at: usize) -> Token
+pub fn next_number(items: &Items, at: usize) -> Token
     ensures { result ≡ next_number (item_of items.now at) }
 {
     match items.get(at) {
-        Some(Token::Int(number)) => added(*number, 1),
+        Some(Token::Int(number)) => add(*number, 1),
         _ => Token::Null,
     }
 }
 
 /// The slot after a firing: a positive number falls by one, another value stays. The only error is want of memory.
-pub fn falling(alloc: Global, items: &Items, at: usize) -> Result<Token, OutOfMemory>
+pub fn count_down(alloc: Global, items: &Items, at: usize) -> Result<Token, OutOfMemory>
     ensures { IfOk result (λ t. t ≡ fallen (item_of items.now at)) }
 {
     match items.get(at) {
@@ -71,7 +71,7 @@ pub fn falling(alloc: Global, items: &Items, at: usize) -> Result<Token, OutOfMe
 }
 
 /// The token, or null where it does not fit: it nests over 16 deep, or its text has over 1,024 bytes.
-pub fn fitting(token: Token) -> Token
+pub fn fit(token: Token) -> Token
     ensures { result ≡ fitted token }
 {
     if fits(&token) { token } else { Token::Null }

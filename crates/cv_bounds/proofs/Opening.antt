@@ -26,25 +26,25 @@ inlet_if : (b : Bool) (i : Inlet) (later : Option Inlet) → InsAreFew 0 (Some i
 inlet_if true i later one few = one
 inlet_if false i later one few = few
 
-new_inlet : (app : AppId) (place : ℕ) (joins : List Connection) (actor port : ℕ) → InsAreFew 0 (inlet_of app place joins actor port ∷ [])
+new_inlet : (app : AppId) (place : ℕ) (connections : List Connection) (actor port : ℕ) → InsAreFew 0 (inlet_of app place connections actor port ∷ [])
 new_inlet app place [] actor port = tt
-new_inlet app place (j ∷ joins) actor port =
-    inlet_if ((j.to == actor) && (j.inp == port)) _ (inlet_of app (suc place) joins actor port) (omega arith, tt) (new_inlet app (suc place) joins actor port)
+new_inlet app place (j ∷ connections) actor port =
+    inlet_if ((j.to == actor) && (j.inp == port)) _ (inlet_of app (suc place) connections actor port) (omega arith, tt) (new_inlet app (suc place) connections actor port)
 
-new_inlets : (app : AppId) (joins : List Connection) (actor port count : ℕ) → InsAreFew 0 (inlets_of app joins actor port count)
-new_inlets app joins actor port zero = tt
-new_inlets app joins actor port (suc count) =
-    first_inlet (inlet_of app 0 joins actor port) (inlets_of app joins actor (suc port) count) (new_inlet app 0 joins actor port) (new_inlets app joins actor (suc port) count)
+new_inlets : (app : AppId) (connections : List Connection) (actor port count : ℕ) → InsAreFew 0 (inlets_of app connections actor port count)
+new_inlets app connections actor port zero = tt
+new_inlets app connections actor port (suc count) =
+    first_inlet (inlet_of app 0 connections actor port) (inlets_of app connections actor (suc port) count) (new_inlet app 0 connections actor port) (new_inlets app connections actor (suc port) count)
 
-new_outs : (app : AppId) (joins : List Connection) (actor port count : ℕ) → OutsAreFew 0 (outs_of app joins actor port count)
-new_outs app joins actor port zero = tt
-new_outs app joins actor port (suc count) = (omega arith, new_outs app joins actor (suc port) count)
+new_outs : (app : AppId) (connections : List Connection) (actor port count : ℕ) → OutsAreFew 0 (outs_of app connections actor port count)
+new_outs app connections actor port zero = tt
+new_outs app connections actor port (suc count) = (omega arith, new_outs app connections actor (suc port) count)
 
-new_few : (app : AppId) (joins : List Connection) (actor : ℕ) (spec : ActorSpec) → LiveIsFew 0 (new_live app joins actor spec 0)
-new_few app joins actor spec = record {
+new_few : (app : AppId) (connections : List Connection) (actor : ℕ) (spec : ActorSpec) → LiveIsFew 0 (new_live app connections actor spec 0)
+new_few app connections actor spec = record {
   attempt = omega arith;
-  ins = new_inlets app joins actor 0 (row_of spec.kind).inports;
-  outs = new_outs app joins actor 0 (row_of spec.kind).outports;
+  ins = new_inlets app connections actor 0 (row_of spec.kind).inports;
+  outs = new_outs app connections actor 0 (row_of spec.kind).outports;
 }
 
 -- 2. All actors in their places
@@ -60,11 +60,11 @@ put_few true m l all new a k is = by_same (same_actor a l.actor.id) (sym (get_in
     by_same true e = subst (LiveIsFew 0) (same_Some l k e) new
     by_same false e = all a k e
 
-placed_few : (app : AppId) (joins : List Connection) (home actor : ℕ) (specs : List ActorSpec) (at : List ℕ) (m : map.FinMap actor_cmp LiveState) → AllFew m → AllFew (all_placed app joins home actor specs at m)
-placed_few app joins home actor [] at m all = all
-placed_few app joins home actor (spec ∷ specs) [] m all = all
-placed_few app joins home actor (spec ∷ specs) (node ∷ at) m all =
-    placed_few app joins home (suc actor) specs at (settled_if (node == home) m (new_live app joins actor spec 0)) (put_few (node == home) m (new_live app joins actor spec 0) all (new_few app joins actor spec))
+placed_few : (app : AppId) (connections : List Connection) (home actor : ℕ) (specs : List ActorSpec) (at : List ℕ) (m : map.FinMap actor_cmp LiveState) → AllFew m → AllFew (all_placed app connections home actor specs at m)
+placed_few app connections home actor [] at m all = all
+placed_few app connections home actor (spec ∷ specs) [] m all = all
+placed_few app connections home actor (spec ∷ specs) (node ∷ at) m all =
+    placed_few app connections home (suc actor) specs at (settled_if (node == home) m (new_live app connections actor spec 0)) (put_few (node == home) m (new_live app connections actor spec 0) all (new_few app connections actor spec))
 
 abbrev AllFirst : map.FinMap actor_cmp Location → Type 0
 AllFirst m = (a : ActorId) (h : Location) → map.get m a ≡ Some h → h.attempt ≤ 0

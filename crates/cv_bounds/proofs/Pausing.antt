@@ -59,8 +59,8 @@ pause_short (kind.Calc k) args fit = omega arith
 
 -- 2. Actors at their start
 
-new_brief : (app : AppId) (joins : List Connection) (actor : ℕ) (spec : ActorSpec) → IsSpec spec → WaitsBriefly 0 (new_live app joins actor spec 0)
-new_brief app joins actor spec is =
+new_brief : (app : AppId) (connections : List Connection) (actor : ℕ) (spec : ActorSpec) → IsSpec spec → WaitsBriefly 0 (new_live app connections actor spec 0)
+new_brief app connections actor spec is =
     let short = pause_short spec.kind spec.args is.args in
     record { due = omega (arith, short); pause = short }
 
@@ -79,11 +79,11 @@ put_brief true m l all new a k is =
     by_same true e = subst (WaitsBriefly 0) (same_Some l k e) new
     by_same false e = all a k e
 
-placed_brief : (app : AppId) (joins : List Connection) (home actor : ℕ) (specs : List ActorSpec) (at : List ℕ) (m : map.FinMap actor_cmp LiveState) → All IsSpec specs → AllBrief m → AllBrief (all_placed app joins home actor specs at m)
-placed_brief app joins home actor [] at m fit all = all
-placed_brief app joins home actor (spec ∷ specs) [] m fit all = all
-placed_brief app joins home actor (spec ∷ specs) (node ∷ at) m fit all =
-    placed_brief app joins home (suc actor) specs at (settled_if (node == home) m (new_live app joins actor spec 0)) (All-tail IsSpec spec specs fit) (put_brief (node == home) m (new_live app joins actor spec 0) all (new_brief app joins actor spec (All-head IsSpec spec specs fit)))
+placed_brief : (app : AppId) (connections : List Connection) (home actor : ℕ) (specs : List ActorSpec) (at : List ℕ) (m : map.FinMap actor_cmp LiveState) → All IsSpec specs → AllBrief m → AllBrief (all_placed app connections home actor specs at m)
+placed_brief app connections home actor [] at m fit all = all
+placed_brief app connections home actor (spec ∷ specs) [] m fit all = all
+placed_brief app connections home actor (spec ∷ specs) (node ∷ at) m fit all =
+    placed_brief app connections home (suc actor) specs at (settled_if (node == home) m (new_live app connections actor spec 0)) (All-tail IsSpec spec specs fit) (put_brief (node == home) m (new_live app connections actor spec 0) all (new_brief app connections actor spec (All-head IsSpec spec specs fit)))
 
 pub opened_is_start : OpenedIsStart
 opened_is_start spec app net at fit = record {

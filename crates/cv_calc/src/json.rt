@@ -5,8 +5,8 @@ ghost use Rattle.cv_behave.specs.Values.{has_fit};
 ghost use Rattle.cv_calc.specs.Values.{text_of, parsed_of, token_or_null, value_at, element_at, got_of};
 ghost use Rattle.cv_token.specs.Reading.{reading};
 
-use cv_behave::building::copied;
-use cv_behave::values::fitting;
+use cv_behave::building::copy_at;
+use cv_behave::values::fit;
 use cv_token::{Items, OutOfMemory, Pairs, Token, TokenFault, read, text};
 use std::alloc::{AllocError, Global};
 
@@ -15,7 +15,7 @@ pub(crate) fn text_token(alloc: Global, a: &Token) -> Result<Token, OutOfMemory>
     ensures { IfOk result (λ t. t ≡ text_of a.now) }
 {
     let text = text(alloc, a)?;
-    Ok(fitting(Token::Text(text)))
+    Ok(fit(Token::Text(text)))
 }
 
 /// The token of a JSON text, or null where it is none's.
@@ -35,7 +35,7 @@ fn read_or_null(alloc: Global, bytes: &[u8]) -> Result<Token, OutOfMemory>
 
 /// The token of a Text, or null where the Text is none's.
 #[tactic(auto, using(cv_behave::proofs::Fitting::fitted_itself))]
-pub(crate) fn parsed(alloc: Global, a: &Token) -> Result<Token, OutOfMemory>
+pub(crate) fn parse(alloc: Global, a: &Token) -> Result<Token, OutOfMemory>
     ensures { IfOk result (λ t. t ≡ parsed_of a.now) }
 {
     match a {
@@ -63,12 +63,12 @@ fn element(alloc: Global, place: i64, items: &Items) -> Result<Token, OutOfMemor
     if place < 0 {
         Ok(Token::Null)
     } else {
-        copied(alloc, items, place as usize)
+        copy_at(alloc, items, place as usize)
     }
 }
 
 /// The value of a Text key in a Dict, or the element at an Int place of a List.
-pub(crate) fn got(alloc: Global, key: &Token, container: &Token) -> Result<Token, OutOfMemory>
+pub(crate) fn get(alloc: Global, key: &Token, container: &Token) -> Result<Token, OutOfMemory>
     ensures { IfOk result (λ t. t ≡ got_of key.now container.now) }
 {
     match (key, container) {

@@ -4,9 +4,9 @@ ghost use Rattle.std.specs.Prelude.{◌≡◌, IfOk, length};
 ghost use Rattle.cv_behave.specs.Values.{item_of};
 ghost use Rattle.cv_calc.specs.Rows.{given_of, one_of_each};
 
-use crate::json::{got, parsed, text_token};
-use crate::math::{compared, difference, product, quotient, remainder, sum};
-use crate::texts::{character_length, joined, negated};
+use crate::json::{get, parse, text_token};
+use crate::math::{compare, difference, product, quotient, remainder, sum};
+use crate::texts::{character_length, join, negate};
 use cv_behave::building::{giving, item};
 use cv_behave::shape::{only, only_count};
 use cv_behave::{Behave, Effect};
@@ -72,14 +72,14 @@ impl CalcKind {
             CalcKind::Multiply => Ok(product(a, b)),
             CalcKind::Divide => Ok(quotient(a, b)),
             CalcKind::Modulo => Ok(remainder(a, b)),
-            CalcKind::Compare => Ok(compared(arg, a, b)),
-            CalcKind::Concat => joined(alloc, a, b),
+            CalcKind::Compare => Ok(compare(arg, a, b)),
+            CalcKind::Concat => join(alloc, a, b),
             CalcKind::Length => Ok(character_length(a)),
-            CalcKind::Prefix => joined(alloc, arg, a),
+            CalcKind::Prefix => join(alloc, arg, a),
             CalcKind::JsonText => text_token(alloc, a),
-            CalcKind::JsonParse => parsed(alloc, a),
-            CalcKind::JsonGet => got(alloc, arg, a),
-            CalcKind::Not => Ok(negated(a)),
+            CalcKind::JsonParse => parse(alloc, a),
+            CalcKind::JsonGet => get(alloc, arg, a),
+            CalcKind::Not => Ok(negate(a)),
         }
     }
 }

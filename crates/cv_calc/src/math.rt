@@ -4,11 +4,11 @@ ghost use Rattle.std.specs.Prelude.{◌≡◌, ◌-ℤ◌, ◌*ℤ◌};
 ghost use Rattle.cv_behave.specs.Values.{number, sum_of};
 ghost use Rattle.cv_calc.specs.Values.{difference_of, product_of, quotient as quotient_or_null, quotient_of, remainder as remainder_or_null, remainder_of, order_of, ordered, compared as comparison_by, comparison_of};
 
-use cv_behave::values::{added, same};
+use cv_behave::values::{add, same};
 use cv_token::Token;
 use std::cmp::Ordering;
 
-fn subtracted(a: i64, b: i64) -> Token
+fn subtract(a: i64, b: i64) -> Token
     ensures { result ≡ number (a -ℤ b) }
 {
     match a.checked_sub(b) {
@@ -17,7 +17,7 @@ fn subtracted(a: i64, b: i64) -> Token
     }
 }
 
-fn multiplied(a: i64, b: i64) -> Token
+fn multiply(a: i64, b: i64) -> Token
     ensures { result ≡ number (a *ℤ b) }
 {
     match a.checked_mul(b) {
@@ -26,7 +26,7 @@ fn multiplied(a: i64, b: i64) -> Token
     }
 }
 
-fn divided(a: i64, b: i64) -> Token
+fn divide(a: i64, b: i64) -> Token
     ensures { result ≡ quotient_or_null a b }
 {
     if b == 0 {
@@ -54,7 +54,7 @@ pub(crate) fn sum(a: &Token, b: &Token) -> Token
     ensures { result ≡ sum_of a.now b.now }
 {
     match (a, b) {
-        (Token::Int(x), Token::Int(y)) => added(*x, *y),
+        (Token::Int(x), Token::Int(y)) => add(*x, *y),
         _ => Token::Null,
     }
 }
@@ -64,7 +64,7 @@ pub(crate) fn difference(a: &Token, b: &Token) -> Token
     ensures { result ≡ difference_of a.now b.now }
 {
     match (a, b) {
-        (Token::Int(x), Token::Int(y)) => subtracted(*x, *y),
+        (Token::Int(x), Token::Int(y)) => subtract(*x, *y),
         _ => Token::Null,
     }
 }
@@ -74,7 +74,7 @@ pub(crate) fn product(a: &Token, b: &Token) -> Token
     ensures { result ≡ product_of a.now b.now }
 {
     match (a, b) {
-        (Token::Int(x), Token::Int(y)) => multiplied(*x, *y),
+        (Token::Int(x), Token::Int(y)) => multiply(*x, *y),
         _ => Token::Null,
     }
 }
@@ -84,7 +84,7 @@ pub(crate) fn quotient(a: &Token, b: &Token) -> Token
     ensures { result ≡ quotient_of a.now b.now }
 {
     match (a, b) {
-        (Token::Int(x), Token::Int(y)) => divided(*x, *y),
+        (Token::Int(x), Token::Int(y)) => divide(*x, *y),
         _ => Token::Null,
     }
 }
@@ -126,7 +126,7 @@ fn by_order(op: &str, order: Ordering) -> Token
     }
 }
 
-fn compared_by(op: &str, a: &Token, b: &Token) -> Token
+fn compare_by(op: &str, a: &Token, b: &Token) -> Token
     ensures { result ≡ comparison_by op.now a.now b.now }
 {
     if op == "=" {
@@ -142,11 +142,11 @@ fn compared_by(op: &str, a: &Token, b: &Token) -> Token
 }
 
 /// Whether the comparison of that name holds.
-pub(crate) fn compared(op: &Token, a: &Token, b: &Token) -> Token
+pub(crate) fn compare(op: &Token, a: &Token, b: &Token) -> Token
     ensures { result ≡ comparison_of op.now a.now b.now }
 {
     match op {
-        Token::Text(op) => compared_by(op.as_str(), a, b),
+        Token::Text(op) => compare_by(op.as_str(), a, b),
         _ => Token::Null,
     }
 }

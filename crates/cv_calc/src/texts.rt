@@ -5,24 +5,24 @@ ghost use Rattle.cv_token.specs.declared.token.Token.TheVariants as token;
 ghost use Rattle.cv_behave.specs.Values.{fitted};
 ghost use Rattle.cv_calc.specs.Values.{joined_of, begins_character, character_count, length_of, negated_of};
 
-use cv_behave::values::fitting;
+use cv_behave::values::fit;
 use cv_token::{OutOfMemory, Text, Token};
 use std::alloc::Global;
 
-fn joined_texts(alloc: Global, a: &Text, b: &Text) -> Result<Token, OutOfMemory>
+fn join_texts(alloc: Global, a: &Text, b: &Text) -> Result<Token, OutOfMemory>
     ensures { IfOk result (λ t. t ≡ fitted (token.Text (a.now ++ b.now))) }
 {
     let mut bytes = String::from_str(alloc, a.as_str())?;
     bytes.push_str(b.as_str())?;
-    Ok(fitting(Token::Text(Text::from_string(bytes))))
+    Ok(fit(Token::Text(Text::from_string(bytes))))
 }
 
 /// Two Texts joined, or null where that does not fit.
-pub(crate) fn joined(alloc: Global, a: &Token, b: &Token) -> Result<Token, OutOfMemory>
+pub(crate) fn join(alloc: Global, a: &Token, b: &Token) -> Result<Token, OutOfMemory>
     ensures { IfOk result (λ t. t ≡ joined_of a.now b.now) }
 {
     match (a, b) {
-        (Token::Text(x), Token::Text(y)) => joined_texts(alloc, x, y),
+        (Token::Text(x), Token::Text(y)) => join_texts(alloc, x, y),
         _ => Ok(Token::Null),
     }
 }
@@ -55,7 +55,7 @@ pub(crate) fn character_length(a: &Token) -> Token
 }
 
 /// The other Bool.
-pub(crate) fn negated(a: &Token) -> Token
+pub(crate) fn negate(a: &Token) -> Token
     ensures { result ≡ negated_of a.now }
 {
     match a {

@@ -30,7 +30,7 @@ pub(crate) fn walk_actor(
 {
     let args = arguments(alloc, world, spot, None, declare.args.as_slice())?;
     let path = path_below(alloc, spot, &declare.name.text)?;
-    let kind = dotted(alloc, first, second)?;
+    let kind = dotted_name(alloc, first, second)?;
     let at = declare.name.at;
     put_actor(
         flat,
@@ -44,7 +44,7 @@ pub(crate) fn walk_actor(
 }
 
 /// The name of a kind.
-fn dotted(alloc: Global, first: &NameText, second: &NameText) -> Result<Text, OutOfMemory>
+fn dotted_name(alloc: Global, first: &NameText, second: &NameText) -> Result<Text, OutOfMemory>
     ensures { IfOk result (λ kind. kind ≡ dotted first.now second.now) }
 {
     let (first, second) = (first.as_str(), second.as_str());

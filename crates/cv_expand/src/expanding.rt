@@ -45,12 +45,12 @@ fn parts_of(alloc: Global, script: &Script) -> Result<Parts, ExpandFault>
         components,
         defines,
     };
-    let parts = unwalked(alloc, items)?;
+    let parts = parts_before(alloc, items)?;
     walk_root(alloc, &world, items, parts)
 }
 
 /// The rules and applies of a script; nothing else was met yet.
-fn unwalked(alloc: Global, script: &[Item]) -> Result<Parts, OutOfMemory>
+fn parts_before(alloc: Global, script: &[Item]) -> Result<Parts, OutOfMemory>
     ensures { IfOk result (λ parts. parts ≡ unwalked script.now) }
 {
     let rules = rules_of(alloc, script)?;

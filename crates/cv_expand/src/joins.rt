@@ -89,16 +89,16 @@ fn constant_args(alloc: Global, join: &Join, given: Given) -> Result<Items<Argum
     ensures { IfOk result (λ args. args ≡ constant_args join.now given) }
 {
     let mut args = Items::new(alloc);
-    let name = named(alloc, "data", join.at)?;
+    let name = name_at(alloc, "data", join.at)?;
     args.push(Argument { name, given })?;
-    let name = named(alloc, "n", join.at)?;
+    let name = name_at(alloc, "n", join.at)?;
     let given = Given::Literal(Literal::Int(-1));
     args.push(Argument { name, given })?;
     Ok(args)
 }
 
 /// A name at a place.
-fn named(alloc: Global, text: &str, at: u32) -> Result<Name, OutOfMemory>
+fn name_at(alloc: Global, text: &str, at: u32) -> Result<Name, OutOfMemory>
     requires { IsName text.now }
     ensures { IfOk result (λ name. name ≡ record { text = text.now; at = at }) }
 {

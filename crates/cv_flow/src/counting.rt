@@ -8,8 +8,8 @@ ghost use Rattle.cv_flow.specs.Values.{element};
 
 use crate::passing::{one_less, pass};
 use cv_behave::Effect;
-use cv_behave::building::{copied, giving, item, one_slot, two_slots};
-use cv_behave::values::{added, falling, following};
+use cv_behave::building::{copy_at, giving, item, one_slot, two_slots};
+use cv_behave::values::{add, count_down, next_number};
 use cv_token::{Items, OutOfMemory, Token};
 use std::alloc::Global;
 
@@ -34,7 +34,7 @@ pub(crate) fn counting(
 ) -> Result<Effect, OutOfMemory>
     ensures { IfOk result (λ e. e ≡ effect_of counter args.now state.now 0 heads.now) }
 {
-    pass(alloc, one_slot(alloc, following(state, 0))?, state, 0)
+    pass(alloc, one_slot(alloc, next_number(state, 0))?, state, 0)
 }
 
 /// `std.CountTimer`: the same in time, n times or for ever.
@@ -46,10 +46,10 @@ pub(crate) fn ticking(
 ) -> Result<Effect, OutOfMemory>
     ensures { IfOk result (λ e. e ≡ effect_of count_timer args.now state.now 0 heads.now) }
 {
-    let left = falling(alloc, state, 1)?;
+    let left = count_down(alloc, state, 1)?;
     pass(
         alloc,
-        two_slots(alloc, following(state, 0), left)?,
+        two_slots(alloc, next_number(state, 0), left)?,
         state,
         0,
     )
@@ -63,7 +63,7 @@ fn element_of(alloc: Global, place: &Token, list: &Token) -> Result<Token, OutOf
         (Token::Int(i), Token::List(items)) => if *i < 0 {
             Ok(Token::Null)
         } else {
-            copied(alloc, items, *i as usize)
+            copy_at(alloc, items, *i as usize)
         },
         _ => Ok(Token::Null),
     }
@@ -80,7 +80,7 @@ pub(crate) fn enumerating(
 {
     let null = Token::Null;
     let token = element_of(alloc, item(state, 0, &null), item(args, 0, &null))?;
-    giving(alloc, one_slot(alloc, following(state, 0))?, Some(token))
+    giving(alloc, one_slot(alloc, next_number(state, 0))?, Some(token))
 }
 
 /// The sum of two Ints, or null where there is none of 64 bits.
@@ -88,7 +88,7 @@ fn total(a: &Token, b: &Token) -> Token
     ensures { result ≡ sum_of a.now b.now }
 {
     match (a, b) {
-        (Token::Int(x), Token::Int(y)) => added(*x, *y),
+        (Token::Int(x), Token::Int(y)) => add(*x, *y),
         _ => Token::Null,
     }
 }
@@ -98,7 +98,7 @@ fn grown_slot(alloc: Global, new: &Token, old: &Items) -> Result<Items, OutOfMem
     ensures { IfOk result (λ state. state ≡ grown new.now (item_of old.now 0) ∷ []) }
 {
     let slot = match new {
-        Token::Null => copied(alloc, old, 0)?,
+        Token::Null => copy_at(alloc, old, 0)?,
         _ => new.copy(alloc)?,
     };
     one_slot(alloc, slot)
@@ -128,7 +128,7 @@ pub(crate) fn tallying(
 ) -> Result<Effect, OutOfMemory>
     ensures { IfOk result (λ e. e ≡ effect_of tally args.now state.now 0 heads.now) }
 {
-    let new = following(state, 0);
+    let new = next_number(state, 0);
     let kept = grown_slot(alloc, &new, state)?;
     giving(alloc, kept, Some(new))
 }

@@ -10,7 +10,7 @@ use crate::counting::{counting, enumerating, repeating, summing, tallying, ticki
 use crate::listing::{batching, unbatching, unzipping, zipping};
 use crate::passing::{beginning, changing, delaying, pass, skipping, spacing, taking};
 use crate::routing::{alternating, dealing, gating, going_round, joining, selecting, switching};
-use cv_behave::building::{copied, one_slot, silent, two_slots};
+use cv_behave::building::{copy_at, one_slot, silent, two_slots};
 use cv_behave::shape::{any, any_count, either, either_count, only, only_count};
 use cv_behave::values::{is_at, is_set, is_whole};
 use cv_behave::{Behave, Effect};
@@ -265,14 +265,14 @@ impl Behave for FlowKind {
 
     fn start(&self, alloc: Global, args: &Items) -> Result<Items, OutOfMemory> {
         match self {
-            FlowKind::Constant => one_slot(alloc, copied(alloc, args, 1)?),
+            FlowKind::Constant => one_slot(alloc, copy_at(alloc, args, 1)?),
             FlowKind::Counter | FlowKind::Take | FlowKind::Skip => one_slot(
                 alloc,
-                copied(alloc, args, 0)?,
+                copy_at(alloc, args, 0)?,
             ),
             FlowKind::CountTimer => {
-                let next = copied(alloc, args, 1)?;
-                two_slots(alloc, next, copied(alloc, args, 2)?)
+                let next = copy_at(alloc, args, 1)?;
+                two_slots(alloc, next, copy_at(alloc, args, 2)?)
             }
             FlowKind::Sequence
             | FlowKind::Sum

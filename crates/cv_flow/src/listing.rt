@@ -8,8 +8,8 @@ ghost use Rattle.cv_flow.specs.Rows.{batch, unbatch, unzip, zip};
 ghost use Rattle.cv_flow.specs.Values.{alone, elements, first_of_two, second_of_two, taken_apart, without_first};
 
 use cv_behave::Effect;
-use cv_behave::building::{copied, giving, giving_two, item, one_slot, two_slots};
-use cv_behave::values::fitting;
+use cv_behave::building::{copy_at, giving, giving_two, item, one_slot, two_slots};
+use cv_behave::values::fit;
 use cv_token::{Items, OutOfMemory, Token, copy_items, fits};
 use std::alloc::Global;
 
@@ -22,7 +22,7 @@ pub(crate) fn batching(
 ) -> Result<Effect, OutOfMemory>
     ensures { IfOk result (λ e. e ≡ effect_of batch args.now state.now 0 heads.now) }
 {
-    let list = fitting(Token::List(copy_items(alloc, heads)?));
+    let list = fit(Token::List(copy_items(alloc, heads)?));
     giving(alloc, Items::new(alloc), Some(list))
 }
 
@@ -35,9 +35,9 @@ pub(crate) fn zipping(
 ) -> Result<Effect, OutOfMemory>
     ensures { IfOk result (λ e. e ≡ effect_of zip args.now state.now 0 heads.now) }
 {
-    let a = copied(alloc, heads, 0)?;
-    let b = copied(alloc, heads, 1)?;
-    let pair = fitting(Token::List(two_slots(alloc, a, b)?));
+    let a = copy_at(alloc, heads, 0)?;
+    let b = copy_at(alloc, heads, 1)?;
+    let pair = fit(Token::List(two_slots(alloc, a, b)?));
     giving(alloc, Items::new(alloc), Some(pair))
 }
 
@@ -117,7 +117,7 @@ fn front(alloc: Global, list: &Token) -> Result<Token, OutOfMemory>
     ensures { IfOk result (λ t. t ≡ item_of (elements (list_of list.now)) 0) }
 {
     match list {
-        Token::List(items) => copied(alloc, items, 0),
+        Token::List(items) => copy_at(alloc, items, 0),
         _ => Ok(Token::Null),
     }
 }

@@ -6,8 +6,8 @@ ghost use Rattle.cv_behave.specs.Values.{fallen, item_of};
 ghost use Rattle.cv_flow.specs.Rows.{change, delay, every, init, skip, take};
 
 use cv_behave::Effect;
-use cv_behave::building::{copied, giving, one_slot, two_slots};
-use cv_behave::values::{falling, following};
+use cv_behave::building::{copy_at, giving, one_slot, two_slots};
+use cv_behave::values::{count_down, next_number};
 use cv_token::{Items, OutOfMemory, Token};
 use std::alloc::Global;
 
@@ -20,7 +20,7 @@ pub(crate) fn pass(
 ) -> Result<Effect, OutOfMemory>
     ensures { IfOk result (λ e. e ≡ leaves state (Some (item_of from.now at) ∷ [])) }
 {
-    let token = copied(alloc, from, at)?;
+    let token = copy_at(alloc, from, at)?;
     giving(alloc, state, Some(token))
 }
 
@@ -28,7 +28,7 @@ pub(crate) fn pass(
 pub(crate) fn as_it_is(alloc: Global, state: &Items) -> Result<Items, OutOfMemory>
     ensures { IfOk result (λ kept. kept ≡ item_of state.now 0 ∷ []) }
 {
-    let slot = copied(alloc, state, 0)?;
+    let slot = copy_at(alloc, state, 0)?;
     one_slot(alloc, slot)
 }
 
@@ -36,7 +36,7 @@ pub(crate) fn as_it_is(alloc: Global, state: &Items) -> Result<Items, OutOfMemor
 pub(crate) fn one_less(alloc: Global, state: &Items) -> Result<Items, OutOfMemory>
     ensures { IfOk result (λ kept. kept ≡ fallen (item_of state.now 0) ∷ []) }
 {
-    let slot = falling(alloc, state, 0)?;
+    let slot = count_down(alloc, state, 0)?;
     one_slot(alloc, slot)
 }
 
@@ -87,7 +87,7 @@ pub(crate) fn spacing(
     if action == 0 {
         pass(alloc, one_slot(alloc, Token::Int(0))?, heads, 0)
     } else {
-        giving(alloc, one_slot(alloc, following(state, 0))?, None)
+        giving(alloc, one_slot(alloc, next_number(state, 0))?, None)
     }
 }
 
@@ -102,11 +102,11 @@ pub(crate) fn changing(
     ensures { IfOk result (λ e. e ≡ effect_of change args.now state.now action heads.now) }
 {
     if action == 0 {
-        let last = copied(alloc, heads, 0)?;
+        let last = copy_at(alloc, heads, 0)?;
         pass(alloc, two_slots(alloc, Token::Bool(true), last)?, heads, 0)
     } else {
-        let seen = copied(alloc, state, 0)?;
-        let last = copied(alloc, state, 1)?;
+        let seen = copy_at(alloc, state, 0)?;
+        let last = copy_at(alloc, state, 1)?;
         giving(alloc, two_slots(alloc, seen, last)?, None)
     }
 }
@@ -142,7 +142,7 @@ pub(crate) fn delaying(
         let empty = two_slots(alloc, Token::Bool(false), Token::Null)?;
         pass(alloc, empty, state, 1)
     } else {
-        let kept = copied(alloc, heads, 0)?;
+        let kept = copy_at(alloc, heads, 0)?;
         giving(alloc, two_slots(alloc, Token::Bool(true), kept)?, None)
     }
 }

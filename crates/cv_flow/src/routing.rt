@@ -6,7 +6,7 @@ ghost use Rattle.cv_flow.specs.Rows.{alternate2, alternate3, dealternate2, join,
 
 use crate::passing::{as_it_is, pass};
 use cv_behave::Effect;
-use cv_behave::building::{copied, giving, giving_two, one_slot};
+use cv_behave::building::{copy_at, giving, giving_two, one_slot};
 use cv_behave::values::is_set;
 use cv_token::{Items, OutOfMemory, Token};
 use std::alloc::Global;
@@ -77,7 +77,7 @@ pub(crate) fn dealing(
 ) -> Result<Effect, OutOfMemory>
     ensures { IfOk result (λ e. e ≡ effect_of dealternate2 args.now state.now action heads.now) }
 {
-    let token = copied(alloc, heads, 0)?;
+    let token = copy_at(alloc, heads, 0)?;
     if action == 0 {
         giving_two(alloc, turn(alloc, 1)?, Some(token), None)
     } else {
@@ -95,7 +95,7 @@ pub(crate) fn selecting(
 ) -> Result<Effect, OutOfMemory>
     ensures { IfOk result (λ e. e ≡ effect_of select args.now state.now action heads.now) }
 {
-    let token = copied(alloc, heads, 1)?;
+    let token = copy_at(alloc, heads, 1)?;
     if action == 0 {
         giving_two(alloc, Items::new(alloc), Some(token), None)
     } else {

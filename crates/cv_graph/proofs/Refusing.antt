@@ -229,38 +229,38 @@ indexes_twice ws w at n port m known aims e = let r = (known port n).0 e in (ref
 
 -- ---- connections
 
-told_unfed : (joins : List Connection) (to inp : ℕ) (supply : Option Supply) (at : ℕ) (e : GraphFault) → Linked joins to inp supply at (Err e) → (e ≡ faults.OutOfMemory) ⊎ ((e ≡ faults.Unfed at) × (supply ≡ None))
-told_unfed joins to inp supply at faults.OutOfMemory h = inl refl
-told_unfed joins to inp supply at (faults.NoKind x) h = inr h
-told_unfed joins to inp supply at (faults.Fraction x) h = inr h
-told_unfed joins to inp supply at (faults.BadArg x) h = inr h
-told_unfed joins to inp supply at (faults.NoPort x) h = inr h
-told_unfed joins to inp supply at (faults.FedTwice x) h = inr h
-told_unfed joins to inp supply at (faults.Unfed x) h = inr h
-told_unfed joins to inp supply at (faults.BatchOverQueue x) h = inr h
+told_unfed : (connections : List Connection) (to inp : ℕ) (supply : Option Supply) (at : ℕ) (e : GraphFault) → Linked connections to inp supply at (Err e) → (e ≡ faults.OutOfMemory) ⊎ ((e ≡ faults.Unfed at) × (supply ≡ None))
+told_unfed connections to inp supply at faults.OutOfMemory h = inl refl
+told_unfed connections to inp supply at (faults.NoKind x) h = inr h
+told_unfed connections to inp supply at (faults.Fraction x) h = inr h
+told_unfed connections to inp supply at (faults.BadArg x) h = inr h
+told_unfed connections to inp supply at (faults.NoPort x) h = inr h
+told_unfed connections to inp supply at (faults.FedTwice x) h = inr h
+told_unfed connections to inp supply at (faults.Unfed x) h = inr h
+told_unfed connections to inp supply at (faults.BatchOverQueue x) h = inr h
 
-pub stopped_unfed : (parts : Parts) (all : List Check) (supply : ℕ → ℕ → Option Supply) (a : Actor) (to n : ℕ) (joins : List Connection) (e : GraphFault) → AreSupplied parts supply → slice_get parts.actors to ≡ Some a → n < length (actor_place a).inports → Left parts all (inport_checks a (drop n (actor_place a).inports))
-    → Linked joins to n (supply to n) a.at (Err e) → Faulty parts all e
-stopped_unfed parts all supply a to n joins e known at inside left told = elim (told_unfed joins to n (supply to n) a.at e told) [
+pub stopped_unfed : (parts : Parts) (all : List Check) (supply : ℕ → ℕ → Option Supply) (a : Actor) (to n : ℕ) (connections : List Connection) (e : GraphFault) → AreSupplied parts supply → slice_get parts.actors to ≡ Some a → n < length (actor_place a).inports → Left parts all (inport_checks a (drop n (actor_place a).inports))
+    → Linked connections to n (supply to n) a.at (Err e) → Faulty parts all e
+stopped_unfed parts all supply a to n connections e known at inside left told = elim (told_unfed connections to n (supply to n) a.at e told) [
   | inl m ↦ memory parts all e m
   | inr t ↦ subst (Faulty parts all) (sym t.0) (inport_stop parts all supply a to n known at inside left t.1)
 ]
 
-pub links_next : (joins more all : List Connection) (supply : ℕ → ℕ → Option Supply) (to n : ℕ) (names : List (List ℕ)) → n < length names → more ≡ joins ++ link to n (supply to n) → joins ++ links_at supply to n (drop n names) ≡ all → more ++ links_at supply to (n + 1) (drop (n + 1) names) ≡ all
-links_next joins more all supply to n names inside is left =
+pub links_next : (connections more all : List Connection) (supply : ℕ → ℕ → Option Supply) (to n : ℕ) (names : List (List ℕ)) → n < length names → more ≡ connections ++ link to n (supply to n) → connections ++ links_at supply to n (drop n names) ≡ all → more ++ links_at supply to (n + 1) (drop (n + 1) names) ≡ all
+links_next connections more all supply to n names inside is left =
     ap (λ (js : List Connection). js ++ links_at supply to (n + 1) (drop (n + 1) names)) is
-    ∙ append_assoc joins (link to n (supply to n)) (links_at supply to (n + 1) (drop (n + 1) names))
-    ∙ ap (λ (k : ℕ). joins ++ (link to n (supply to n) ++ links_at supply to k (drop (n + 1) names))) (add-one n)
-    ∙ ap (λ (l : List (List ℕ)). joins ++ links_at supply to n l) (sym (drop_more names n [] inside))
+    ∙ append_assoc connections (link to n (supply to n)) (links_at supply to (n + 1) (drop (n + 1) names))
+    ∙ ap (λ (k : ℕ). connections ++ (link to n (supply to n) ++ links_at supply to k (drop (n + 1) names))) (add-one n)
+    ∙ ap (λ (l : List (List ℕ)). connections ++ links_at supply to n l) (sym (drop_more names n [] inside))
     ∙ left
 
-pub from_next : (joins more all : List Connection) (supply : ℕ → ℕ → Option Supply) (i : ℕ) (xs : List Actor) (x : Actor) → i < length xs → x ≡ get_or xs i x → more ≡ joins ++ links_at supply i 0 (actor_place x).inports → joins ++ links_from supply i (map actor_place (drop i xs)) ≡ all
+pub from_next : (connections more all : List Connection) (supply : ℕ → ℕ → Option Supply) (i : ℕ) (xs : List Actor) (x : Actor) → i < length xs → x ≡ get_or xs i x → more ≡ connections ++ links_at supply i 0 (actor_place x).inports → connections ++ links_from supply i (map actor_place (drop i xs)) ≡ all
     → more ++ links_from supply (i + 1) (map actor_place (drop (i + 1) xs)) ≡ all
-from_next joins more all supply i xs x inside e is left =
+from_next connections more all supply i xs x inside e is left =
     ap (λ (js : List Connection). js ++ links_from supply (i + 1) (map actor_place (drop (i + 1) xs))) is
-    ∙ append_assoc joins (links_at supply i 0 (actor_place x).inports) (links_from supply (i + 1) (map actor_place (drop (i + 1) xs)))
-    ∙ ap (λ (k : ℕ). joins ++ (links_at supply i 0 (actor_place x).inports ++ links_from supply k (map actor_place (drop (i + 1) xs)))) (add-one i)
-    ∙ ap (λ (l : List Actor). joins ++ links_from supply i (map actor_place l)) (sym (drop_read xs i x inside e))
+    ∙ append_assoc connections (links_at supply i 0 (actor_place x).inports) (links_from supply (i + 1) (map actor_place (drop (i + 1) xs)))
+    ∙ ap (λ (k : ℕ). connections ++ (links_at supply i 0 (actor_place x).inports ++ links_from supply k (map actor_place (drop (i + 1) xs)))) (add-one i)
+    ∙ ap (λ (l : List Actor). connections ++ links_from supply i (map actor_place l)) (sym (drop_read xs i x inside e))
     ∙ left
 
 pub some_of : (o : Option ℕ) → is_some o ≡ true → (n : ℕ) × (o ≡ Some n)

@@ -17,7 +17,7 @@ use Rattle.cv_kinds.specs.declared.network.ActorSpec.{ActorSpec}
 use Rattle.cv_kinds.specs.declared.network.Connection.{Connection}
 use Rattle.cv_kinds.specs.Net.{Net}
 use Rattle.cv_kinds.specs.WellFormed.{IsSpec as IsSound, IsWellFormed, path_list}
-use Rattle.cv_kinds.specs.Wired.{HasOutport, HasInport, IsWired, Joins}
+use Rattle.cv_kinds.specs.Wired.{HasOutport, HasInport, IsWired, HasPorts}
 use Rattle.cv_kinds.proofs.Lines.{inports_are, outports_are}
 use Rattle.cv_kinds.proofs.Wires.{wired_of}
 use Rattle.cv_graph.specs.declared.port.Side.{Side}
@@ -58,7 +58,7 @@ inport_there parts net n k e is h =
     let below = r.3 in
     subst (λ (o : Option ActorSpec). HasInport o k) (sym r.2) (omega (arith, below, inports_are r.0.kind))
 
-pub parts_joined : (parts : Parts) (net : Net) → IsNetwork parts net → All (Joins net.actors) net.connections
+pub parts_joined : (parts : Parts) (net : Net) → IsNetwork parts net → All (HasPorts net.actors) net.connections
 parts_joined parts net is = λ c j below.
     let k = get_or net.connections c j in
     let h = (is.connections k).0 (among_at net.connections c k (slice_get-get_or net.connections c j below)) in

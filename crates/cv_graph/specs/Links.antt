@@ -62,9 +62,9 @@ link to inp (Some (supplies.Outport from out)) = record { from = from; out = out
 
 -- the connections with that of one more inport behind them, or Unfed where it has no supply
 abbrev pub Linked : List Connection → ℕ → ℕ → Option Supply → ℕ → Result (Vec Connection) GraphFault → Type 0
-Linked joins to inp supply at (Ok all) = (supply ≢ None) × (all.items ≡ joins ++ link to inp supply)
-Linked joins to inp supply at (Err faults.OutOfMemory) = Unit {0}
-Linked joins to inp supply at (Err fault) = (fault ≡ faults.Unfed at) × (supply ≡ None)
+Linked connections to inp supply at (Ok all) = (supply ≢ None) × (all.items ≡ connections ++ link to inp supply)
+Linked connections to inp supply at (Err faults.OutOfMemory) = Unit {0}
+Linked connections to inp supply at (Err fault) = (fault ≡ faults.Unfed at) × (supply ≡ None)
 
 -- the connections of an actor's inports, from one of them on
 abbrev pub links_at : (ℕ → ℕ → Option Supply) → ℕ → ℕ → List (List ℕ) → List Connection

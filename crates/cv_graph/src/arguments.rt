@@ -20,12 +20,12 @@ pub fn arguments(alloc: Global, kind: Kind, actor: &Actor) -> Result<Items, Grap
     let given = given_of(alloc, actor.args.as_slice())?;
     match check_args(alloc, kind, &given) {
         Ok(args) => Ok(args),
-        Err(fault) => Err(placed(actor, fault)),
+        Err(fault) => Err(place_fault(actor, fault)),
     }
 }
 
 /// A fault of arguments, at its place.
-fn placed(actor: &Actor, fault: ArgFault) -> GraphFault
+fn place_fault(actor: &Actor, fault: ArgFault) -> GraphFault
     ensures { result ≡ placed actor.now fault }
 {
     match fault {

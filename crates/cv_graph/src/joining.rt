@@ -39,14 +39,14 @@ pub fn join_feeds(alloc: Global, parts: &Parts, table: &Places) -> Result<Joined
     let mut feeders = BTreeMap::new(alloc);
     for feed in parts.feeds.as_slice() {
         let wire = wire_of(alloc, parts, table, feed)?;
-        feeders = indexed(feeders, wire, wires.len(), feed.target_at)?;
+        feeders = add_target(feeders, wire, wires.len(), feed.target_at)?;
         wires.push(wire)?;
     }
     Ok(Joined { wires, feeders })
 }
 
 /// The map with one more join, where there is none to its target.
-pub(crate) fn indexed(
+pub(crate) fn add_target(
     feeders: BTreeMap<Port, usize>,
     wire: Wire,
     number: usize,

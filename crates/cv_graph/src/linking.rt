@@ -69,38 +69,38 @@ pub fn connections_of(
     requires few { length (parts.now).actors ≤ 256 }
     requires supplied { AreSupplied parts.now (supplied feeders.now ways.now) }
     ensures judged { Judges parts.now (fed_checks (parts.now).actors) result }
-    ensures links { IfOk result (λ joins. joins.items ≡ links_from (supplied feeders.now ways.now) 0 (actor_places parts.now)) }
+    ensures links { IfOk result (λ connections. connections.items ≡ links_from (supplied feeders.now ways.now) 0 (actor_places parts.now)) }
 {
-    let mut joins = Vec::new(alloc);
+    let mut connections = Vec::new(alloc);
     for (to, actor) in parts.actors.as_slice().iter().enumerate() {
-        joins = connected(actor, to, feeders, ways, joins)?;
+        connections = connect_actor(actor, to, feeders, ways, connections)?;
     }
-    Ok(joins)
+    Ok(connections)
 }
 
 /// The connections, and those of an actor's inports behind them.
-fn connected(
+fn connect_actor(
     actor: &Actor,
     to: usize,
     feeders: &BTreeMap<Port, usize>,
     ways: &[Way],
-    joins: Vec<Connection>,
+    connections: Vec<Connection>,
 ) -> Result<Vec<Connection>, GraphFault>
     requires { to < 256 }
     ensures judged { (parts : Parts) → AreSupplied parts (supplied feeders.now ways.now) → slice_get parts.actors to ≡ Some actor.now → Judges parts (inport_checks actor.now (actor_place actor.now).inports) result }
-    ensures links { IfOk result (λ all. all.items ≡ joins.items ++ links_at (supplied feeders.now ways.now) to 0 (actor_place actor.now).inports) }
+    ensures links { IfOk result (λ all. all.items ≡ connections.items ++ links_at (supplied feeders.now ways.now) to 0 (actor_place actor.now).inports) }
 {
-    let mut joins = joins;
+    let mut connections = connections;
     for number in 0..inports_of(actor) {
         let supply = supply_of(feeders, ways, to, number);
-        joins = link_inport(joins, to, number, supply, actor.at)?;
+        connections = link_inport(connections, to, number, supply, actor.at)?;
     }
-    Ok(joins)
+    Ok(connections)
 }
 
 /// The connections, and the one that a supply makes behind them.
 fn link_inport(
-    joins: Vec<Connection>,
+    connections: Vec<Connection>,
     to: usize,
     number: usize,
     supply: Option<Supply>,
@@ -108,20 +108,20 @@ fn link_inport(
 ) -> Result<Vec<Connection>, GraphFault>
     requires to { to < 256 }
     requires number { number < 256 }
-    ensures { Linked joins.items to number supply at result }
+    ensures { Linked connections.items to number supply at result }
 {
-    let mut joins = joins;
+    let mut connections = connections;
     match supply {
         None => return Err(GraphFault::Unfed { at }),
         Some(Supply::Void) => {}
-        Some(Supply::Outport { actor, port }) => joins.push(Connection {
+        Some(Supply::Outport { actor, port }) => connections.push(Connection {
             from: actor,
             out: port,
             to: to as u16,
             inp: number as u8,
         })?,
     }
-    Ok(joins)
+    Ok(connections)
 }
 
 /// What feeds the inport of that number of an actor.

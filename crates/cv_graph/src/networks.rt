@@ -38,20 +38,20 @@ pub fn network(alloc: Global, flat: &Flat) -> Result<Network, GraphFault>
 fn connections(alloc: Global, parts: &Parts) -> Result<Vec<Connection>, GraphFault>
     requires { IsFlat parts.now }
     ensures judged { Judges parts.now (feed_checks [] (parts.now).feeds ++ fed_checks (parts.now).actors) result }
-    ensures connections { IfOk result (λ joins. (j : Connection) → Among joins.items j ↔ Connects parts.now j) }
-    ensures rising { IfOk result (λ joins. Rising joins.items) }
-    ensures few { IfOk result (λ joins. length joins.items ≤ 4096) }
+    ensures connections { IfOk result (λ all. (j : Connection) → Among all.items j ↔ Connects parts.now j) }
+    ensures rising { IfOk result (λ all. Rising all.items) }
+    ensures few { IfOk result (λ all. length all.items ≤ 4096) }
 {
     let table = Places::of(alloc, parts)?;
     let joined = join_feeds(alloc, parts, &table)?;
     let wires = joined.wires.as_slice();
     let ways = ways_of(alloc, parts.actors.len(), &joined.feeders, wires)?;
-    let ends = followed(ways);
+    let ends = follow_all(ways);
     connections_of(alloc, parts, &joined.feeders, ends.as_slice())
 }
 
 /// The ways at their ends.
-fn followed(ways: Vec<Way>) -> Vec<Way>
+fn follow_all(ways: Vec<Way>) -> Vec<Way>
     requires { AreWithin ways.items }
     ensures { AreEnded ways.items result.items }
 {

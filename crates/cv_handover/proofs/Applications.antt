@@ -128,33 +128,33 @@ one_same a b e =
       | inr s ↦ absurd (true≢false (sym e ∙ s.0))
     ]
 
-module _ (app : AppId) (joins : List Connection) (now : ℕ) where
+module _ (app : AppId) (connections : List Connection) (now : ℕ) where
   abbrev numbered : ℕ → ActorId
   numbered k = record { app = app; actor = k }
 
   abbrev with_one : fin.FinMap actor_cmp LiveState → ℕ → ActorSpec → fin.FinMap actor_cmp LiveState
-  with_one live k spec = fin.insert live (numbered k) (new_live app joins k spec now)
+  with_one live k spec = fin.insert live (numbered k) (new_live app connections k spec now)
 
   -- actors of other numbers are left as they were
-  live_beside : (specs : List ActorSpec) (first : ℕ) (live : fin.FinMap actor_cmp LiveState) (b : ActorId) → (b.app ≡ app → first ≤ b.actor → b.actor < first + length specs → ⊥) → fin.get (all_live app joins now first specs live) b ≡ fin.get live b
+  live_beside : (specs : List ActorSpec) (first : ℕ) (live : fin.FinMap actor_cmp LiveState) (b : ActorId) → (b.app ≡ app → first ≤ b.actor → b.actor < first + length specs → ⊥) → fin.get (all_live app connections now first specs live) b ≡ fin.get live b
   live_beside [] first live b out = refl
   live_beside (spec ∷ specs) first live b out =
       let number : b ≡ numbered first → b.actor ≡ first = ap (λ (x : ActorId). x.actor) in
       let apart : b ≡ numbered first → ⊥ = λ e. let k = number e in out (ap (λ (x : ActorId). x.app) e) (omega (arith, k)) (omega (arith, k)) in
-      live_beside specs (suc first) (with_one live first spec) b (λ same low high. out same (omega arith) (omega arith)) ∙ inserted_beside live (numbered first) (new_live app joins first spec now) b apart
+      live_beside specs (suc first) (with_one live first spec) b (λ same low high. out same (omega arith) (omega arith)) ∙ inserted_beside live (numbered first) (new_live app connections first spec now) b apart
 
   -- each actor of the network lives as it is at the start
-  live_there : (specs : List ActorSpec) (first place : ℕ) (spec : ActorSpec) (live : fin.FinMap actor_cmp LiveState) → slice_get specs place ≡ Some spec → fin.get (all_live app joins now first specs live) (numbered (first + place)) ≡ Some (new_live app joins (first + place) spec now)
+  live_there : (specs : List ActorSpec) (first place : ℕ) (spec : ActorSpec) (live : fin.FinMap actor_cmp LiveState) → slice_get specs place ≡ Some spec → fin.get (all_live app connections now first specs live) (numbered (first + place)) ≡ Some (new_live app connections (first + place) spec now)
   live_there [] first place spec live is = absurd (none_some spec is)
   live_there (x ∷ specs) first zero spec live is =
       let later = live_beside specs (suc first) (with_one live first x) (numbered first) (λ one low high. omega arith) in
-      let here = inserted_there live (numbered first) (new_live app joins first x now) in
-      let same = ap (λ (y : ActorSpec). Some (new_live app joins first y now)) (same_Some x spec is) in
+      let here = inserted_there live (numbered first) (new_live app connections first x now) in
+      let same = ap (λ (y : ActorSpec). Some (new_live app connections first y now)) (same_Some x spec is) in
       let number : first ≡ first + 0 = omega arith in
-      subst (λ (k : ℕ). fin.get (all_live app joins now first (x ∷ specs) live) (numbered k) ≡ Some (new_live app joins k spec now)) number (later ∙ here ∙ same)
+      subst (λ (k : ℕ). fin.get (all_live app connections now first (x ∷ specs) live) (numbered k) ≡ Some (new_live app connections k spec now)) number (later ∙ here ∙ same)
   live_there (x ∷ specs) first (suc place) spec live is =
       let number : suc first + place ≡ first + suc place = omega arith in
-      subst (λ (k : ℕ). fin.get (all_live app joins now first (x ∷ specs) live) (numbered k) ≡ Some (new_live app joins k spec now)) number (live_there specs (suc first) place spec (with_one live first x) is)
+      subst (λ (k : ℕ). fin.get (all_live app connections now first (x ∷ specs) live) (numbered k) ≡ Some (new_live app connections k spec now)) number (live_there specs (suc first) place spec (with_one live first x) is)
 
 -- 3. Deploy
 

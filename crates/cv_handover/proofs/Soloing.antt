@@ -35,14 +35,14 @@ wait_if : (m : Meaning) (app : AppId) (place : ℕ) (j : Connection) (rest : Lis
 wait_if m app place j rest later true e = refl
 wait_if m app place j rest later false e = e
 
-waits_same : (m : Meaning) (app : AppId) (place : ℕ) (joins : List Connection) (actor port : ℕ) → waits joins (listed (stream_in m app) place (length joins)) actor port ≡ waiting m (fed_by (inlet_of app place joins actor port))
+waits_same : (m : Meaning) (app : AppId) (place : ℕ) (connections : List Connection) (actor port : ℕ) → waits connections (listed (stream_in m app) place (length connections)) actor port ≡ waiting m (fed_by (inlet_of app place connections actor port))
 waits_same m app place [] actor port = refl
-waits_same m app place (j ∷ joins) actor port =
-    wait_if m app place j (waits joins (listed (stream_in m app) (suc place) (length joins)) actor port) (inlet_of app (suc place) joins actor port) ((j.to == actor) && (j.inp == port)) (waits_same m app (suc place) joins actor port)
+waits_same m app place (j ∷ connections) actor port =
+    wait_if m app place j (waits connections (listed (stream_in m app) (suc place) (length connections)) actor port) (inlet_of app (suc place) connections actor port) ((j.to == actor) && (j.inp == port)) (waits_same m app (suc place) connections actor port)
 
-inputs_same : (m : Meaning) (app : AppId) (joins : List Connection) (actor port count : ℕ) → inputs_from joins (listed (stream_in m app) 0 (length joins)) actor port count ≡ map (λ i. waiting m (fed_by i)) (inlets_of app joins actor port count)
-inputs_same m app joins actor port zero = refl
-inputs_same m app joins actor port (suc count) = λ z. waits_same m app 0 joins actor port z ∷ inputs_same m app joins actor (suc port) count z
+inputs_same : (m : Meaning) (app : AppId) (connections : List Connection) (actor port count : ℕ) → inputs_from connections (listed (stream_in m app) 0 (length connections)) actor port count ≡ map (λ i. waiting m (fed_by i)) (inlets_of app connections actor port count)
+inputs_same m app connections actor port zero = refl
+inputs_same m app connections actor port (suc count) = λ z. waits_same m app 0 connections actor port z ∷ inputs_same m app connections actor (suc port) count z
 
 -- the counts of what waits, at one inport
 count_there : (row : Row) (args : List Token) (action port : ℕ) (qs : List (List Token)) (p : ℕ) (q : List Token) → has_counts row args action port qs ≡ true → slice_get qs p ≡ Some q → needed row args action (port + p) ≤ length q
@@ -101,7 +101,7 @@ module _ (n : Nets) (m : Meaning) (a : ActorId) (action : ℕ) (wired : IsWired 
   took_fed q =
       let d : ConnId = conn_in a.app c in
       let f = fed_place n a q.place d q.feeds in
-      let k : f.0.join ≡ j = same_place f.0.join f.0.stands in
+      let k : f.0.connection ≡ j = same_place f.0.connection f.0.stands in
       let to : j.to ≡ a.actor = ap (λ (x : Connection). x.to) (sym k) ∙ f.1 in
       let inp : j.inp ≡ q.place = ap (λ (x : Connection). x.inp) (sym k) ∙ f.2 in
       let z : 0 + q.place ≡ q.place = omega arith in
@@ -131,7 +131,7 @@ module _ (n : Nets) (m : Meaning) (a : ActorId) (action : ℕ) (wired : IsWired 
   gave_read out q =
       let d : ConnId = conn_in a.app c in
       let f = read_place n a q.place d (record { conns = q.conns; port = q.port; number = q.number; reads = q.reads }) in
-      let k : f.0.join ≡ j = same_place f.0.join f.0.stands in
+      let k : f.0.connection ≡ j = same_place f.0.connection f.0.stands in
       let from : j.from ≡ a.actor = ap (λ (x : Connection). x.from) (sym k) ∙ f.1 in
       let at_out : j.out ≡ q.place = ap (λ (x : Connection). x.out) (sym k) ∙ f.2 in
       given_if out (gift_of out (fresh n a).outs d) (j.from == a.actor) refl (λ t. ap (given_at out) at_out ∙ ap option_to_list (sym (given_there q.place out)) ∙ sym q.given) (λ other. absurd (other from))
@@ -158,12 +158,12 @@ module _ (n : Nets) (m : Meaning) (a : ActorId) (action : ℕ) (wired : IsWired 
 
 -- 3. The runtime after it
 
-streams_same : (spec : ActorSpec) (actor action : ℕ) (out : List (Option Token)) (f g : ℕ → Stream) (from : ℕ) (joins : List Connection) → ((c : ℕ) (j : Connection) → slice_get joins c ≡ Some j → stream_after spec actor action out j (f (from + c)) ≡ g (from + c)) → streams_after spec actor action out joins (listed f from (length joins)) ≡ listed g from (length joins)
+streams_same : (spec : ActorSpec) (actor action : ℕ) (out : List (Option Token)) (f g : ℕ → Stream) (from : ℕ) (connections : List Connection) → ((c : ℕ) (j : Connection) → slice_get connections c ≡ Some j → stream_after spec actor action out j (f (from + c)) ≡ g (from + c)) → streams_after spec actor action out connections (listed f from (length connections)) ≡ listed g from (length connections)
 streams_same spec actor action out f g from [] same = refl
-streams_same spec actor action out f g from (j ∷ joins) same =
+streams_same spec actor action out f g from (j ∷ connections) same =
     let e : from + 0 ≡ from = omega arith in
     let first = ap (λ k. stream_after spec actor action out j (f k)) (sym e) ∙ same 0 j refl ∙ ap g e in
-    let rest = streams_same spec actor action out f g (suc from) joins (λ c k h. let n : suc from + c ≡ from + suc c = omega arith in ap (λ q. stream_after spec actor action out k (f q)) n ∙ same (suc c) k h ∙ ap g (sym n)) in
+    let rest = streams_same spec actor action out f g (suc from) connections (λ c k h. let n : suc from + c ≡ from + suc c = omega arith in ap (λ q. stream_after spec actor action out k (f q)) n ∙ same (suc c) k h ∙ ap g (sym n)) in
     λ z. first z ∷ rest z
 
 slots_put : (slots : ActorId → List Token) (a b : ActorId) (new : List Token) → ((b ≡ a) × (with_slots slots a new b ≡ new)) ⊎ (((b ≡ a) → ⊥) × (with_slots slots a new b ≡ slots b))

@@ -15,7 +15,7 @@ pub const MOST_BODY: usize = 1_048_576;
 pub const MOST_DIGITS: usize = 20;
 
 /// The value of decimal digits, counted up to one past the longest body.
-fn capped(digits: &[u8]) -> usize
+fn cap_value(digits: &[u8]) -> usize
     requires { list_all is_ascii_digit digits.now ≡ true }
     ensures { result ≡ min (digits_value 10 digits.now) (MOST_BODY + 1) }
 {
@@ -41,7 +41,7 @@ pub(crate) fn number_of(value: &[u8]) -> Result<usize, HttpFault>
     if value.is_empty() || value.len() > MOST_DIGITS || !are_digits(value) {
         return Err(HttpFault::BadLength);
     }
-    let number = capped(value);
+    let number = cap_value(value);
     if number > MOST_BODY {
         return Err(HttpFault::BodyTooLong);
     }

@@ -8,9 +8,9 @@ use Rattle.cv_kinds.specs.Net.{Net}
 use Rattle.cv_solo.specs.OneRuntime.{Runtime, ready_of, slots_of}
 
 -- the actors from which an actor is reached: itself, and the producers of what such an actor consumes
-pub data Reaches (joins : List Connection) (actor : ℕ) : ℕ → Type 0 where
-  itself : Reaches joins actor actor
-  through : (c : ℕ) (j : Connection) → slice_get joins c ≡ Some j → Reaches joins actor j.to → Reaches joins actor j.from
+pub data Reaches (connections : List Connection) (actor : ℕ) : ℕ → Type 0 where
+  itself : Reaches connections actor actor
+  through : (c : ℕ) (j : Connection) → slice_get connections c ≡ Some j → Reaches connections actor j.to → Reaches connections actor j.from
 
 -- for no arguments, state and inputs two actions of the actor are ready
 abbrev pub IsDeterministic : Option ActorSpec → Type 0

@@ -4,7 +4,7 @@ use Rattle.std.proofs.lemmas.Option.{get_or_from_slice_get, slice_get-get_or, sl
 use Rattle.std.specs.List.{All}
 use Rattle.cv_kinds.specs.declared.network.ActorSpec.{ActorSpec}
 use Rattle.cv_kinds.specs.declared.network.Connection.{Connection}
-use Rattle.cv_kinds.specs.Wired.{AllAbove, IsBelow, IsWired, Joins, Rising}
+use Rattle.cv_kinds.specs.Wired.{AllAbove, IsBelow, IsWired, HasPorts, Rising}
 
 some_same : {X : Type 0} (x y : X) → Some x ≡ Some y → x ≡ y
 some_same x y e = cc
@@ -69,14 +69,14 @@ one_place (x ∷ js) (suc c) (suc d) j k h e f to inp = ap suc (one_place js c d
 pub all_at : {X : Type 0} (P : X → Type 0) (xs : List X) (i : ℕ) (x : X) → All P xs → slice_get xs i ≡ Some x → P x
 all_at P xs i x h e = subst P (get_or_from_slice_get xs i x x e) (h i x (slice_get_within xs i x e))
 
-pub wired_of : (actors : List ActorSpec) (js : List Connection) → All (Joins actors) js → Rising js → IsWired (record { actors = actors; connections = js })
+pub wired_of : (actors : List ActorSpec) (js : List Connection) → All (HasPorts actors) js → Rising js → IsWired (record { actors = actors; connections = js })
 wired_of actors js all rising = record {
-  producers = λ c j e. (all_at (Joins actors) js c j all e).producer;
-  consumers = λ c j e. (all_at (Joins actors) js c j all e).consumer;
+  producers = λ c j e. (all_at (HasPorts actors) js c j all e).producer;
+  consumers = λ c j e. (all_at (HasPorts actors) js c j all e).consumer;
   one_writer = λ c d j k e f to inp. one_place js c d j k rising e f to inp;
 }
 
-pub joins_of : (actors : List ActorSpec) (js : List Connection) → IsWired (record { actors = actors; connections = js }) → All (Joins actors) js
-joins_of actors js wired = λ c j h.
+pub all_have_ports : (actors : List ActorSpec) (js : List Connection) → IsWired (record { actors = actors; connections = js }) → All (HasPorts actors) js
+all_have_ports actors js wired = λ c j h.
     let e = slice_get-get_or js c j h in
     record { producer = wired.producers c _ e; consumer = wired.consumers c _ e }

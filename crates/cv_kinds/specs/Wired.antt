@@ -1,4 +1,4 @@
--- A well-formed network: its connections join ports that are there, and no two share an inport.
+-- A well-formed network: the ports of its connections are there, and no two share an inport.
 use Rattle.std.specs.Prelude.{◌≡◌, ℕ, ◌<◌, ◌≤◌, List, [], ◌∷◌, slice_get, Option, Some, None}
 use Rattle.cv_kinds.specs.declared.network.ActorSpec.{ActorSpec}
 use Rattle.cv_kinds.specs.declared.network.Connection.{Connection}
@@ -21,7 +21,7 @@ pub record IsWired (net : Net) : Type 0 where
   pub one_writer : (c d : ℕ) (j k : Connection) → slice_get net.connections c ≡ Some j → slice_get net.connections d ≡ Some k → j.to ≡ k.to → j.inp ≡ k.inp → c ≡ d
 
 -- both ends of a connection are there
-pub record Joins (actors : List ActorSpec) (j : Connection) : Type 0 where
+pub record HasPorts (actors : List ActorSpec) (j : Connection) : Type 0 where
   pub producer : HasOutport (slice_get actors j.from) j.out
   pub consumer : HasInport (slice_get actors j.to) j.inp
 

@@ -4,7 +4,7 @@ ghost use Rattle.std.specs.Prelude.{◌≡◌, ◌↔◌, All, IfOk, IfSome, IsS
 ghost use Rattle.std.specs.List.{IsDistinct};
 ghost use Rattle.std.specs.Str.{bytes_eq};
 ghost use Rattle.cv_kinds.specs.WellFormed.{IsSpec, IsWellFormed, path_list};
-ghost use Rattle.cv_kinds.specs.Wired.{HasInport, HasOutport, IsBelow, Joins, Rising};
+ghost use Rattle.cv_kinds.specs.Wired.{HasInport, HasOutport, IsBelow, HasPorts, Rising};
 
 use crate::network::{ActorSpec, Connection, Network};
 use crate::sorts::args_ok;
@@ -47,7 +47,7 @@ fn is_well_formed(
     if actors.len() > MOST_ACTORS || connections.len() > MOST_CONNECTIONS {
         return Ok(false);
     }
-    if !are_specs(actors) || !are_joined(actors, connections) || !rise(connections) {
+    if !are_specs(actors) || !have_ports(actors, connections) || !rise(connections) {
         return Ok(false);
     }
     are_distinct(alloc, actors)
@@ -82,17 +82,20 @@ fn are_distinct(alloc: Global, actors: &[ActorSpec]) -> Result<bool, OutOfMemory
     Ok(true)
 }
 
-/// Whether each connection joins ports that are there.
-fn are_joined(actors: &[ActorSpec], connections: &[Connection]) -> bool
-    ensures { IsTrue result ↔ All (Joins actors.now) connections.now }
+/// Whether the ports of each connection are there.
+fn have_ports(actors: &[ActorSpec], connections: &[Connection]) -> bool
+    ensures { IsTrue result ↔ All (HasPorts actors.now) connections.now }
 {
-    connections.iter().all(|join| is_joined(actors, *join))
+    connections
+        .iter()
+        .all(|connection| has_ports(actors, *connection))
 }
 
-fn is_joined(actors: &[ActorSpec], join: Connection) -> bool
-    ensures { IsTrue result ↔ Joins actors.now join }
+fn has_ports(actors: &[ActorSpec], connection: Connection) -> bool
+    ensures { IsTrue result ↔ HasPorts actors.now connection }
 {
-    has_outport(actors, join.from, join.out) && has_inport(actors, join.to, join.inp)
+    has_outport(actors, connection.from, connection.out)
+        && has_inport(actors, connection.to, connection.inp)
 }
 
 fn has_outport(actors: &[ActorSpec], actor: u16, port: u8) -> bool
@@ -125,8 +128,8 @@ fn rise(connections: &[Connection]) -> bool
     true
 }
 
-fn is_below(join: Connection, other: Connection) -> bool
-    ensures { IsTrue result ↔ IsBelow join other }
+fn is_below(connection: Connection, other: Connection) -> bool
+    ensures { IsTrue result ↔ IsBelow connection other }
 {
-    join.to < other.to || join.to == other.to && join.inp < other.inp
+    connection.to < other.to || connection.to == other.to && connection.inp < other.inp
 }

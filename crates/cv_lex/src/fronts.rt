@@ -10,7 +10,7 @@ use crate::classes::{
 use crate::escapes::bad_escape;
 use crate::lexeme::{LexFault, Sort};
 use crate::numbers::int_value;
-use crate::spans::{closing, place_of};
+use crate::spans::{closing_place, place_of};
 
 /// What stands at the front of a text. The number says how many bytes belong to it behind the first.
 #[derive(Debug, Clone, Copy, PartialEq, Eq)]
@@ -114,7 +114,7 @@ fn text_front(inside: &[u8], at: u32) -> Front
     ensures value { result ≡ text_front at inside.now (closing 0 false inside.now) }
     ensures within { IsWithin (length inside.now + 1) result }
 {
-    match closing(inside) {
+    match closing_place(inside) {
         None => Front::Flaw(LexFault::OpenText { at }),
         Some(place) => match bad_escape(inside.split_at(place).0) {
             None => Front::Lexeme(Sort::Text, place + 1),

@@ -33,7 +33,7 @@ fn say_front(text: &mut String, rest: &str) -> Result<Option<usize>, OutOfMemory
 }
 
 /// What stands between the quotes of a text. A bad escape, which no lexeme has, makes it empty.
-pub fn said(alloc: Global, inside: &str) -> Result<Text, OutOfMemory>
+pub fn unescape(alloc: Global, inside: &str) -> Result<Text, OutOfMemory>
     ensures { IfOk result (λ text. text ≡ said inside.now) }
 {
     let mut text = String::new(alloc);

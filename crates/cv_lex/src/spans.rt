@@ -18,7 +18,7 @@ fn hides_next(hidden: bool, byte: u8) -> bool
 }
 
 /// The place of the quote that ends the text which begins here, behind its first quote.
-pub fn closing(bytes: &[u8]) -> Option<usize>
+pub fn closing_place(bytes: &[u8]) -> Option<usize>
     ensures value { result ≡ closing 0 false bytes.now }
     ensures within { IfSome result (λ n. n < length bytes.now) }
 {

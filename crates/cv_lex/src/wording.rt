@@ -9,7 +9,7 @@ ghost use Rattle.cv_lex.specs.Words.{name_word, reserved_of, bytes_of, inside_of
 use crate::lexeme::{Lexeme, Sort};
 use crate::name_text::NameText;
 use crate::numbers::int_value;
-use crate::saying::said;
+use crate::saying::unescape;
 use crate::word::{Placed, Word, mark_of, reserved_of};
 use cv_token::{OutOfMemory, Text};
 use std::alloc::Global;
@@ -65,7 +65,7 @@ fn word_of(alloc: Global, source: &str, lexeme: &Lexeme) -> Result<Word, OutOfMe
         Sort::Name => name_word(alloc, part),
         Sort::Int => Ok(Word::Int(int_value(part.as_bytes()).unwrap_or(0))),
         Sort::Fraction => Ok(Word::Fraction(own_text(alloc, part)?)),
-        Sort::Text => Ok(Word::Text(said(alloc, inside_of(source, lexeme))?)),
+        Sort::Text => Ok(Word::Text(unescape(alloc, inside_of(source, lexeme))?)),
         Sort::Mark => Ok(Word::Mark(mark_of(part.as_bytes()))),
     }
 }

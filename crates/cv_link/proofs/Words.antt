@@ -9,7 +9,7 @@ use Rattle.cv_link.specs.declared.items.Item.{Item}
 use Rattle.cv_link.specs.declared.items.Item.TheVariants.{Move, Lose, Twice, Cut}
 use Rattle.cv_link.specs.declared.plan.Taken.{Taken}
 use Rattle.cv_link.specs.declared.plan.Taken.TheVariants as told
-use Rattle.cv_link.specs.Items.{Numbers, LinkView, joins, no_items, number_added, with_item, link_of}
+use Rattle.cv_link.specs.Items.{Numbers, LinkView, is_between, no_items, number_added, with_item, link_of}
 use Rattle.cv_link.specs.Plan.{IsLost, IsJudged}
 use Rattle.cv_link.specs.Planned.{PlansLoss, IsAsPlanned}
 
@@ -27,11 +27,11 @@ same_number n k e = grind (arith, nat_tests, e)
 number_itself : (n k : ℕ) → n ≡ k → (k == n) ≡ true
 number_itself n k e = grind (arith, nat_tests, e)
 
-joins_same : (l : LinkView) (from to : ℕ) → joins l from to ≡ true → (from ≡ l.from) × (to ≡ l.to)
-joins_same l from to e = grind (arith, nat_tests, e)
+between_same : (l : LinkView) (from to : ℕ) → is_between l from to ≡ true → (from ≡ l.from) × (to ≡ l.to)
+between_same l from to e = grind (arith, nat_tests, e)
 
-joins_its : (l : LinkView) (from to : ℕ) → from ≡ l.from → to ≡ l.to → joins l from to ≡ true
-joins_its l from to f t = grind (arith, nat_tests, f, t)
+between_its : (l : LinkView) (from to : ℕ) → from ≡ l.from → to ≡ l.to → is_between l from to ≡ true
+between_its l from to f t = grind (arith, nat_tests, f, t)
 
 -- which numbers are there once one was added
 has_added : (asked : Bool) (ns : Numbers) (n k : ℕ) → IsTrue (set.contains (number_added asked ns n) k) ↔ (IsTrue (set.contains ns k) ⊎ ((asked ≡ true) × (n ≡ k)))
@@ -49,11 +49,11 @@ Enters of kind = (l : LinkView) (x : Item) (k : ℕ) → IsTrue (set.contains (o
 other_kind : {P Q : Type 0} → ¬ Q → P ↔ (P ⊎ Q)
 other_kind never = (λ h. inl h, λ h. elim h [ inl p ↦ p | inr q ↦ absurd (never q) ])
 
-its_kind : (kind : ℕ → ℕ → ℕ → Item) → ((a b c d e f : ℕ) → kind a b c ≡ kind d e f → (a ≡ d) × (b ≡ e) × (c ≡ f)) → (l : LinkView) (ns : Numbers) (from to n k : ℕ) → IsTrue (set.contains (number_added (joins l from to) ns n) k) ↔ (IsTrue (set.contains ns k) ⊎ (kind from to n ≡ kind l.from l.to k))
+its_kind : (kind : ℕ → ℕ → ℕ → Item) → ((a b c d e f : ℕ) → kind a b c ≡ kind d e f → (a ≡ d) × (b ≡ e) × (c ≡ f)) → (l : LinkView) (ns : Numbers) (from to n k : ℕ) → IsTrue (set.contains (number_added (is_between l from to) ns n) k) ↔ (IsTrue (set.contains ns k) ⊎ (kind from to n ≡ kind l.from l.to k))
 its_kind kind parts l ns from to n k =
-    let e = has_added (joins l from to) ns n k in (
-      λ h. elim (e.0 h) [ inl c ↦ inl c | inr p ↦ inr (let j = joins_same l from to p.0 in cc (j.0, j.1, p.1)) ],
-      λ h. e.1 (elim h [ inl c ↦ inl c | inr q ↦ inr (let s = parts from to n l.from l.to k q in (joins_its l from to s.0 s.1, s.2)) ]),
+    let e = has_added (is_between l from to) ns n k in (
+      λ h. elim (e.0 h) [ inl c ↦ inl c | inr p ↦ inr (let j = between_same l from to p.0 in cc (j.0, j.1, p.1)) ],
+      λ h. e.1 (elim h [ inl c ↦ inl c | inr q ↦ inr (let s = parts from to n l.from l.to k q in (between_its l from to s.0 s.1, s.2)) ]),
     )
 
 lose_enters : Enters (λ l. l.lose) Lose

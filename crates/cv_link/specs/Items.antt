@@ -25,8 +25,8 @@ abbrev pub no_items : ℕ → ℕ → LinkView
 no_items from to = record { from = from; to = to; lose = set.empty; twice = set.empty; cut = set.empty }
 
 -- whether the link leads from that node to the other
-abbrev pub joins : LinkView → ℕ → ℕ → Bool
-joins l from to = (l.from == from) && (l.to == to)
+abbrev pub is_between : LinkView → ℕ → ℕ → Bool
+is_between l from to = (l.from == from) && (l.to == to)
 
 -- the numbers, with that one where it is asked
 abbrev pub number_added : Bool → Numbers → ℕ → Numbers
@@ -35,9 +35,9 @@ number_added asked ns k = if asked then set.insert ns k else ns
 -- the link with that item, which changes nothing where it is one of another link, or a move
 abbrev pub with_item : LinkView → Item → LinkView
 with_item l (Move actor node after) = l
-with_item l (Lose from to k) = record l { lose = number_added (joins l from to) l.lose k }
-with_item l (Twice from to k) = record l { twice = number_added (joins l from to) l.twice k }
-with_item l (Cut from to k) = record l { cut = number_added (joins l from to) l.cut k }
+with_item l (Lose from to k) = record l { lose = number_added (is_between l from to) l.lose k }
+with_item l (Twice from to k) = record l { twice = number_added (is_between l from to) l.twice k }
+with_item l (Cut from to k) = record l { cut = number_added (is_between l from to) l.cut k }
 
 -- the link with those of the items that are its own
 abbrev pub link_of : ℕ → ℕ → List Item → LinkView

@@ -2,7 +2,7 @@
 
 ghost use Rattle.std.specs.Prelude.{◌≡◌, ◌≤◌, ◌↔◌, IsTrue, OnOk, OnErr};
 ghost use Rattle.std.specs.FinSet as set;
-ghost use Rattle.cv_link.specs.Items.{no_items, with_item, joins, HasWithin};
+ghost use Rattle.cv_link.specs.Items.{no_items, with_item, is_between, HasWithin};
 
 use crate::numbers::Numbers;
 use cv_token::OutOfMemory;
@@ -63,9 +63,11 @@ impl LinkItems {
         ensures err { OnErr result (self.new ≡ self.old) }
     {
         match item {
-            Item::Lose { from, to, k } if self.joins(from, to) => self.lose.add(u64::from(k)),
-            Item::Twice { from, to, k } if self.joins(from, to) => self.twice.add(u64::from(k)),
-            Item::Cut { from, to, k } if self.joins(from, to) => self.cut.add(u64::from(k)),
+            Item::Lose { from, to, k } if self.is_between(from, to) => self.lose.add(u64::from(k)),
+            Item::Twice { from, to, k } if self.is_between(from, to) => self
+                .twice
+                .add(u64::from(k)),
+            Item::Cut { from, to, k } if self.is_between(from, to) => self.cut.add(u64::from(k)),
             _ => Ok(()),
         }
     }
@@ -93,8 +95,8 @@ impl LinkItems {
     }
 
     // Whether the link is the one between these nodes.
-    fn joins(&self, from: u16, to: u16) -> bool
-        ensures { result ≡ joins self.now from to }
+    fn is_between(&self, from: u16, to: u16) -> bool
+        ensures { result ≡ is_between self.now from to }
     {
         self.from == from && self.to == to
     }

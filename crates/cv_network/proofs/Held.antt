@@ -14,9 +14,9 @@ use Rattle.cv_kinds.specs.declared.network.Connection.{Connection}
 use Rattle.cv_kinds.specs.Net.{Net}
 use Rattle.cv_kinds.specs.Table.{line_of}
 use Rattle.cv_kinds.specs.WellFormed.{IsSpec, IsWellFormed}
-use Rattle.cv_kinds.specs.Wired.{HasInport, HasOutport, Joins}
+use Rattle.cv_kinds.specs.Wired.{HasInport, HasOutport, HasPorts}
 use Rattle.cv_kinds.proofs.Trees.{Within, a_list, a_null, a_text, all_low, an_int, args_within, each_of, low_text, name_text, ports_low}
-use Rattle.cv_kinds.proofs.Wires.{joins_of}
+use Rattle.cv_kinds.proofs.Wires.{all_have_ports}
 use Rattle.cv_network.specs.Written.{actor_token, connection_token, inport_of, network_token, outport_of, port_token}
 
 an_actor : (a : ActorSpec) → IsSpec a → Within 18 (actor_token a)
@@ -44,7 +44,7 @@ consumer_there : (o : Option ActorSpec) (port : ℕ) → HasInport o port → (a
 consumer_there None port h = absurd h
 consumer_there (Some a) port h = (a, refl)
 
-a_connection : (actors : List ActorSpec) → length actors ≤ 256 → (j : Connection) → Joins actors j → Within 18 (connection_token actors j)
+a_connection : (actors : List ActorSpec) → length actors ≤ 256 → (j : Connection) → HasPorts actors j → Within 18 (connection_token actors j)
 a_connection actors few j is =
     let p = producer_there (slice_get actors j.from) j.out is.producer in
     let q = consumer_there (slice_get actors j.to) j.inp is.consumer in
@@ -59,13 +59,13 @@ dict-depth ps = search (rules, the_lemmas)
 pub a_network : (net : Net) → IsWellFormed net → Within 20 (network_token net)
 a_network net whole =
     let actors = a_list 18 _ (each_of IsSpec actor_token 18 an_actor net.actors whole.specs) in
-    let joins = a_list 18 _ (each_of (Joins net.actors) (connection_token net.actors) 18 (a_connection net.actors whole.small.few_actors) net.connections (joins_of net.actors net.connections whole.wired)) in
+    let connections = a_list 18 _ (each_of (HasPorts net.actors) (connection_token net.actors) 18 (a_connection net.actors whole.small.few_actors) net.connections (all_have_ports net.actors net.connections whole.wired)) in
     let first : Token = tree.List (map actor_token net.actors) in
     let second : Token = tree.List (map (connection_token net.actors) net.connections) in
     let ps : List (Pair Token) = record { key = codes "actors"; value = first } ∷ record { key = codes "connections"; value = second } ∷ [] in
     record {
-      token = is_token-Dict ps ∙ rw (actors.token, joins.token, low_text (codes "actors") refl, low_text (codes "connections") refl) refl;
-      shallow = omega (arith, dict-depth ps, actors.shallow, joins.shallow);
+      token = is_token-Dict ps ∙ rw (actors.token, connections.token, low_text (codes "actors") refl, low_text (codes "connections") refl) refl;
+      shallow = omega (arith, dict-depth ps, actors.shallow, connections.shallow);
     }
 
 pub network_held : (net : Net) → IsWellFormed net → IsTree (network_token net)

@@ -2,8 +2,8 @@
 #![tactic(auto)]
 
 mod actors;
+mod connections;
 pub mod fault;
-mod joins;
 pub mod reading;
 pub mod writing;
 

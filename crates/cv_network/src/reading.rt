@@ -9,8 +9,8 @@ ghost use Rattle.cv_network.specs.Read.{Gives, IsRead, IsTextOf};
 ghost use Rattle.cv_network.specs.Written.{actor_token, connection_token, network_token};
 
 use crate::actors::actors_of;
+use crate::connections::connections_of;
 use crate::fault::NetFault;
-use crate::joins::joins_of;
 use crate::writing::network_token;
 use cv_kinds::Network;
 use cv_token::{OutOfMemory, Token, are_equal, read_spelled};
@@ -68,19 +68,19 @@ fn candidate(alloc: Global, token: &Token) -> Result<Option<Network>, OutOfMemor
 fn network_with(
     alloc: Global,
     actors: &Token,
-    joins: &Token,
+    connections: &Token,
 ) -> Result<Option<Network>, OutOfMemory>
-    ensures { (net : Net) → IsWellFormed net → actors.now ≡ tree.List (map actor_token net.actors) → joins.now ≡ tree.List (map (connection_token net.actors) net.connections)
+    ensures { (net : Net) → IsWellFormed net → actors.now ≡ tree.List (map actor_token net.actors) → connections.now ≡ tree.List (map (connection_token net.actors) net.connections)
         → IfOk result (λ found. found ≡ Some net) }
 {
-    let (Token::List(actors), Token::List(joins)) = (actors, joins) else {
+    let (Token::List(actors), Token::List(connections)) = (actors, connections) else {
         return Ok(None);
     };
     let Some(actors) = actors_of(alloc, actors.as_slice())? else {
         return Ok(None);
     };
-    let Some(joins) = joins_of(alloc, actors.as_slice(), joins.as_slice())? else {
+    let Some(connections) = connections_of(alloc, actors.as_slice(), connections.as_slice())? else {
         return Ok(None);
     };
-    Network::of(alloc, actors, joins)
+    Network::of(alloc, actors, connections)
 }

@@ -34,7 +34,7 @@ pub fn network_token(alloc: Global, net: &Network) -> Result<Token, OutOfMemory>
 fn member(alloc: Global, key: &str, list: Items) -> Result<Pair<Token>, OutOfMemory>
     ensures { IfOk result (λ pair. pair ≡ record { key = key.now; value = tokens.List list }) }
 {
-    let key = named(alloc, key)?;
+    let key = own_text(alloc, key)?;
     Ok(Pair {
         key,
         value: Token::List(list),
@@ -58,7 +58,7 @@ fn actor_token(alloc: Global, actor: &ActorSpec) -> Result<Token, OutOfMemory>
 {
     let mut parts = Items::new(alloc);
     parts.push(Token::Text(actor.path.copy(alloc)?))?;
-    parts.push(Token::Text(named(alloc, name(actor.kind))?))?;
+    parts.push(Token::Text(own_text(alloc, name(actor.kind))?))?;
     parts.push(Token::List(copy_items(alloc, &actor.args)?))?;
     parts.push(Token::Null)?;
     Ok(Token::List(parts))
@@ -83,15 +83,15 @@ fn connection_tokens(
 fn connection_token(
     alloc: Global,
     actors: &[ActorSpec],
-    join: Connection,
+    connection: Connection,
 ) -> Result<Token, OutOfMemory>
-    ensures { IfOk result (λ token. token ≡ connection_token actors.now join) }
+    ensures { IfOk result (λ token. token ≡ connection_token actors.now connection) }
 {
     let mut parts = Items::new(alloc);
-    parts.push(Token::Int(i64::from(join.from)))?;
-    parts.push(outport_token(alloc, actors, join)?)?;
-    parts.push(Token::Int(i64::from(join.to)))?;
-    parts.push(inport_token(alloc, actors, join)?)?;
+    parts.push(Token::Int(i64::from(connection.from)))?;
+    parts.push(outport_token(alloc, actors, connection)?)?;
+    parts.push(Token::Int(i64::from(connection.to)))?;
+    parts.push(inport_token(alloc, actors, connection)?)?;
     Ok(Token::List(parts))
 }
 
@@ -99,22 +99,26 @@ fn connection_token(
 fn outport_token(
     alloc: Global,
     actors: &[ActorSpec],
-    join: Connection,
+    connection: Connection,
 ) -> Result<Token, OutOfMemory>
-    ensures { IfOk result (λ token. token ≡ outport_token actors.now join) }
+    ensures { IfOk result (λ token. token ≡ outport_token actors.now connection) }
 {
-    match actors.get(join.from as usize) {
-        Some(actor) => port_token(alloc, actor.kind.line().outports, join.out),
+    match actors.get(connection.from as usize) {
+        Some(actor) => port_token(alloc, actor.kind.line().outports, connection.out),
         None => Ok(Token::Null),
     }
 }
 
 /// The name of the inport to which a connection goes.
-fn inport_token(alloc: Global, actors: &[ActorSpec], join: Connection) -> Result<Token, OutOfMemory>
-    ensures { IfOk result (λ token. token ≡ inport_token actors.now join) }
+fn inport_token(
+    alloc: Global,
+    actors: &[ActorSpec],
+    connection: Connection,
+) -> Result<Token, OutOfMemory>
+    ensures { IfOk result (λ token. token ≡ inport_token actors.now connection) }
 {
-    match actors.get(join.to as usize) {
-        Some(actor) => port_token(alloc, actor.kind.line().inports, join.inp),
+    match actors.get(connection.to as usize) {
+        Some(actor) => port_token(alloc, actor.kind.line().inports, connection.inp),
         None => Ok(Token::Null),
     }
 }
@@ -124,13 +128,13 @@ fn port_token(alloc: Global, names: &[&str], number: u8) -> Result<Token, OutOfM
     ensures { IfOk result (λ token. token ≡ port_token (map (λ text. text.now) names.now) number) }
 {
     match names.get(number as usize) {
-        Some(name) => Ok(Token::Text(named(alloc, name)?)),
+        Some(name) => Ok(Token::Text(own_text(alloc, name)?)),
         None => Ok(Token::Null),
     }
 }
 
 /// A text of its own.
-fn named(alloc: Global, text: &str) -> Result<Text, OutOfMemory>
+fn own_text(alloc: Global, text: &str) -> Result<Text, OutOfMemory>
     ensures { IfOk result (λ own. own ≡ text.now) }
 {
     Ok(Text::from_string(String::from_str(alloc, text)?))

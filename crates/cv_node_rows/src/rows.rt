@@ -389,26 +389,26 @@ fn beings_of(alloc: Global, app: AppId, net: &Network, now: u64) -> Result<Vec<B
             actor: u16::try_from(place).unwrap_or(0),
         };
         let mut being = being_of(alloc, id, spec, now);
-        for (number, join) in net.connections().iter().enumerate() {
+        for (number, connection) in net.connections().iter().enumerate() {
             let conn = ConnId {
                 app,
                 place: u16::try_from(number).unwrap_or(0),
             };
-            if join.to == id.actor {
+            if connection.to == id.actor {
                 being.fed = Some((
                     conn,
                     ActorId {
                         app,
-                        actor: join.from,
+                        actor: connection.from,
                     },
                 ));
             }
-            if join.from == id.actor {
+            if connection.from == id.actor {
                 being.ways.push(Way {
                     conn,
                     consumer: ActorId {
                         app,
-                        actor: join.to,
+                        actor: connection.to,
                     },
                     acked: 0,
                     sent: 0,

@@ -140,7 +140,7 @@ fn part_at(dice: &mut Dice, place: u16) -> Part {
 /// A network of five actors: each but the first two is fed by one up to itself that writes, or by none.
 fn network(alloc: Global, dice: &mut Dice) -> Result<Network, OutOfMemory> {
     let mut actors = Vec::new(alloc);
-    let mut joins = Vec::new(alloc);
+    let mut connections = Vec::new(alloc);
     for place in 0..ACTORS {
         let part = part_at(dice, place);
         actors.push(spec(alloc, place, &part)?)?;
@@ -150,7 +150,7 @@ fn network(alloc: Global, dice: &mut Dice) -> Result<Network, OutOfMemory> {
             None => false,
         };
         if place >= 2 && writes && dice.roll(8) > 0 {
-            joins.push(Connection {
+            connections.push(Connection {
                 from,
                 out: 0,
                 to: place,
@@ -158,7 +158,7 @@ fn network(alloc: Global, dice: &mut Dice) -> Result<Network, OutOfMemory> {
             })?;
         }
     }
-    match Network::of(alloc, actors, joins)? {
+    match Network::of(alloc, actors, connections)? {
         Some(net) => Ok(net),
         None => Err(AllocError),
     }

@@ -150,13 +150,13 @@ refused s stamp sender a attempt v = record {
 }
 
 -- the connections of an outport are known to be this actor's
-abbrev pub readers_joined : ActorId → List Reader → map.FinMap conn_cmp ActorId → map.FinMap conn_cmp ActorId
-readers_joined a [] producers = producers
-readers_joined a (r ∷ rs) producers = readers_joined a rs (map.insert producers r.conn a)
+abbrev pub readers_noted : ActorId → List Reader → map.FinMap conn_cmp ActorId → map.FinMap conn_cmp ActorId
+readers_noted a [] producers = producers
+readers_noted a (r ∷ rs) producers = readers_noted a rs (map.insert producers r.conn a)
 
-abbrev pub outs_joined : ActorId → List OutView → map.FinMap conn_cmp ActorId → map.FinMap conn_cmp ActorId
-outs_joined a [] producers = producers
-outs_joined a (o ∷ outs) producers = outs_joined a outs (readers_joined a o.readers producers)
+abbrev pub outs_noted : ActorId → List OutView → map.FinMap conn_cmp ActorId → map.FinMap conn_cmp ActorId
+outs_noted a [] producers = producers
+outs_noted a (o ∷ outs) producers = outs_noted a outs (readers_noted a o.readers producers)
 
 abbrev pub all_raised : List Hint → NodeState → NodeState
 all_raised [] s = s
@@ -165,7 +165,7 @@ all_raised (h ∷ hs) s = all_raised hs (raise s h.actor h.attempt h.node)
 -- the actor lives here, by this attempt
 abbrev pub arrived : NodeState → ActorId → ℕ → StateView → NodeState
 arrived s a attempt state = record s {
-  known = record (s.known) { producers = outs_joined a state.actor.outs s.known.producers };
+  known = record (s.known) { producers = outs_noted a state.actor.outs s.known.producers };
   live = map.insert s.live a (restore state attempt s.now);
 }
 

@@ -103,9 +103,9 @@ next_app s = record { node = s.spec.no; seq = s.known.deployed + 1 }
 
 -- the actors of a network from number `actor` on live here
 abbrev pub all_live : AppId → List Connection → ℕ → ℕ → List ActorSpec → map.FinMap actor_cmp LiveState → map.FinMap actor_cmp LiveState
-all_live app joins now actor [] live = live
-all_live app joins now actor (spec ∷ specs) live =
-    all_live app joins now (suc actor) specs (map.insert live (record { app = app; actor = actor }) (new_live app joins actor spec now))
+all_live app connections now actor [] live = live
+all_live app connections now actor (spec ∷ specs) live =
+    all_live app connections now (suc actor) specs (map.insert live (record { app = app; actor = actor }) (new_live app connections actor spec now))
 
 -- they are known to live here, by the attempt 0
 abbrev pub all_hinted : AppId → ℕ → ℕ → List ActorSpec → map.FinMap actor_cmp Location → map.FinMap actor_cmp Location
@@ -114,10 +114,10 @@ all_hinted app node actor (spec ∷ specs) hints =
     all_hinted app node (suc actor) specs (map.insert hints (record { app = app; actor = actor }) (record { attempt = 0; node = node }))
 
 -- the producers of the connections from number `place` on
-abbrev pub all_joined : AppId → ℕ → List Connection → map.FinMap conn_cmp ActorId → map.FinMap conn_cmp ActorId
-all_joined app place [] producers = producers
-all_joined app place (j ∷ joins) producers =
-    all_joined app (suc place) joins (map.insert producers (record { app = app; place = place }) (record { app = app; actor = j.from }))
+abbrev pub producers_noted : AppId → ℕ → List Connection → map.FinMap conn_cmp ActorId → map.FinMap conn_cmp ActorId
+producers_noted app place [] producers = producers
+producers_noted app place (j ∷ connections) producers =
+    producers_noted app (suc place) connections (map.insert producers (record { app = app; place = place }) (record { app = app; actor = j.from }))
 
 abbrev pub elsewhere : AppId → ActorId → Bool
 elsewhere app a = not (same_app a.app app)
@@ -128,7 +128,7 @@ deployed_state s name net app = record s {
   known = record (s.known) {
     apps = map.insert s.known.apps app (known.Known name net);
     deployed = s.known.deployed + 1;
-    producers = all_joined app 0 net.connections s.known.producers;
+    producers = producers_noted app 0 net.connections s.known.producers;
   };
   live = all_live app net.connections s.now 0 net.actors (map.retain_keys s.live (elsewhere app));
   moves = record (s.moves) { frozen = map.retain_keys s.moves.frozen (elsewhere app) };

@@ -20,7 +20,7 @@ queue_length = 4
 -- the connection that feeds an inport, for the connections from number `place` on
 abbrev pub inlet_of : AppId → ℕ → List Connection → ℕ → ℕ → Option Inlet
 inlet_of app place [] actor port = None
-inlet_of app place (j ∷ joins) actor port =
+inlet_of app place (j ∷ connections) actor port =
     if (j.to == actor) && (j.inp == port)
     then
     Some (record {
@@ -28,7 +28,7 @@ inlet_of app place (j ∷ joins) actor port =
       producer = record { app = app; actor = j.from };
       port = new_in queue_length;
     })
-    else inlet_of app (suc place) joins actor port
+    else inlet_of app (suc place) connections actor port
 
 abbrev pub added_if : {X : Type 0} → Bool → X → List X → List X
 added_if true x xs = x ∷ xs
@@ -37,40 +37,40 @@ added_if false x xs = xs
 -- the readers of an outport, by rising connection
 abbrev pub readers_of : AppId → ℕ → List Connection → ℕ → ℕ → List Subscription
 readers_of app place [] actor port = []
-readers_of app place (j ∷ joins) actor port =
+readers_of app place (j ∷ connections) actor port =
     added_if ((j.from == actor) && (j.out == port)) (record {
       conn = record { app = app; place = place };
       consumer = record { app = app; actor = j.to };
       acked = 0;
-    }) (readers_of app (suc place) joins actor port)
+    }) (readers_of app (suc place) connections actor port)
 
 -- so many inports from number `port` on, and so many outports
 abbrev pub inlets_of : AppId → List Connection → ℕ → ℕ → ℕ → List (Option Inlet)
-inlets_of app joins actor port zero = []
-inlets_of app joins actor port (suc count) =
-    inlet_of app 0 joins actor port ∷ inlets_of app joins actor (suc port) count
+inlets_of app connections actor port zero = []
+inlets_of app connections actor port (suc count) =
+    inlet_of app 0 connections actor port ∷ inlets_of app connections actor (suc port) count
 
 abbrev pub outs_of : AppId → List Connection → ℕ → ℕ → ℕ → List OutView
-outs_of app joins actor port zero = []
-outs_of app joins actor port (suc count) =
-    new_out queue_length (readers_of app 0 joins actor port) ∷ outs_of app joins actor (suc port) count
+outs_of app connections actor port zero = []
+outs_of app connections actor port (suc count) =
+    new_out queue_length (readers_of app 0 connections actor port) ∷ outs_of app connections actor (suc port) count
 
 -- an actor of a network at the start: the slots of its row, and empty ports
 abbrev pub new_actor : AppId → List Connection → ℕ → ActorSpec → Actor
-new_actor app joins actor spec = record {
+new_actor app connections actor spec = record {
   id = record { app = app; actor = actor };
   spec = spec;
   slots = (row_of spec.kind).start spec.args;
-  ins = inlets_of app joins actor 0 (row_of spec.kind).inports;
-  outs = outs_of app joins actor 0 (row_of spec.kind).outports;
+  ins = inlets_of app connections actor 0 (row_of spec.kind).inports;
+  outs = outs_of app connections actor 0 (row_of spec.kind).outports;
 }
 
 abbrev pub first_due : ActorSpec → ℕ → ℕ
 first_due spec now = now + (row_of spec.kind).pause spec.args
 
 abbrev pub new_live : AppId → List Connection → ℕ → ActorSpec → ℕ → LiveState
-new_live app joins actor spec now =
-    record { actor = new_actor app joins actor spec; due = first_due spec now; attempt = 0 }
+new_live app connections actor spec now =
+    record { actor = new_actor app connections actor spec; due = first_due spec now; attempt = 0 }
 
 -- 2. Leaving
 

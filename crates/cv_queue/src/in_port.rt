@@ -4,7 +4,7 @@ ghost use Rattle.std.specs.Prelude.{◌≡◌, ℕ, ◌+◌, ◌-◌, ◌^◌, �
 ghost use Rattle.std.specs.Option.{option_copied};
 ghost use Rattle.cv_queue.specs.Ports.{IsInPort, received, new_in, in_at, answer_to, after_offer, after_peek, after_commit, after_cancel};
 
-use crate::slots::{copied, drop_front, reserved};
+use crate::slots::{copy_with_room, drop_front, with_room};
 use cv_token::{Items, OutOfMemory, Token};
 use std::alloc::Global;
 use std::marker::Model;
@@ -77,7 +77,7 @@ impl InPort {
             return Ok(None);
         }
         Ok(Some(InPort {
-            held: reserved(alloc, cap, held)?,
+            held: with_room(alloc, cap, held)?,
             taken,
             tentative: 0,
             cap,
@@ -89,7 +89,7 @@ impl InPort {
         ensures { IfOk result (λ port. port ≡ self.now) }
     {
         Ok(InPort {
-            held: copied(alloc, self.cap, &self.held)?,
+            held: copy_with_room(alloc, self.cap, &self.held)?,
             taken: self.taken,
             tentative: self.tentative,
             cap: self.cap,

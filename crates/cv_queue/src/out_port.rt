@@ -5,7 +5,7 @@ ghost use Rattle.std.specs.Option.{option_copied};
 ghost use Rattle.cv_queue.specs.Ports.{place, reader_from, count, IsOutPort, AreWritten, count_of, first_needed_from, new_out, out_at, space, token_at, token_for, after_write, acknowledges, after_ack, after_rewind, after_sent, HasUnsent, IsThere};
 
 use crate::reader::{MOST_READERS, Reader, Readers};
-use crate::slots::{copied, drop_front, reserved};
+use crate::slots::{copy_with_room, drop_front, with_room};
 use cv_token::{Items, OutOfMemory, Token};
 use std::alloc::Global;
 use std::marker::Model;
@@ -83,7 +83,7 @@ fn new_readers(alloc: Global, readers: &Readers) -> Result<Vec<Reader>, OutOfMem
 }
 
 /// Readers to whom nothing was sent beyond what they have acknowledged.
-fn resumed(alloc: Global, readers: &Readers) -> Result<Vec<Reader>, OutOfMemory>
+fn resumed_readers(alloc: Global, readers: &Readers) -> Result<Vec<Reader>, OutOfMemory>
     ensures value { IfOk result (λ list. list.items ≡ map (λ s. reader_from s.acked s) readers.now) }
     ensures few { length readers.now ≤ 65535 }
 {
@@ -129,7 +129,7 @@ impl OutPort {
     ) -> Result<Option<OutPort>, OutOfMemory>
         ensures { IfOk result (λ port. SomeIff port (IsOutPort (out_at cap write held readers)) (out_at cap write held readers)) }
     {
-        let readers = resumed(alloc, &readers)?;
+        let readers = resumed_readers(alloc, &readers)?;
         if cap == 0 || held.len() > usize::from(cap) || write > MOST {
             return Ok(None);
         }
@@ -139,7 +139,7 @@ impl OutPort {
             return Ok(None);
         }
         Ok(Some(OutPort {
-            held: reserved(alloc, cap, held)?,
+            held: with_room(alloc, cap, held)?,
             write,
             cap,
             readers,
@@ -151,7 +151,7 @@ impl OutPort {
         ensures { IfOk result (λ port. port ≡ self.now) }
     {
         Ok(OutPort {
-            held: copied(alloc, self.cap, &self.held)?,
+            held: copy_with_room(alloc, self.cap, &self.held)?,
             write: self.write,
             cap: self.cap,
             readers: Vec::from_slice(alloc, &self.readers)?,

@@ -7,7 +7,7 @@ use cv_token::{Items, OutOfMemory, Token};
 use std::alloc::Global;
 
 /// The tokens of the list in a `Vec` with room for `cap` of them.
-pub(crate) fn reserved(alloc: Global, cap: u16, mut list: Items) -> Result<Vec<Token>, OutOfMemory>
+pub(crate) fn with_room(alloc: Global, cap: u16, mut list: Items) -> Result<Vec<Token>, OutOfMemory>
     ensures items { IfOk result (λ slots. slots.items ≡ list) }
     ensures room { IfOk result (λ slots. cap ≤ vec_capacity slots) }
 {
@@ -20,7 +20,11 @@ pub(crate) fn reserved(alloc: Global, cap: u16, mut list: Items) -> Result<Vec<T
 }
 
 /// Copies of the tokens in a `Vec` with room for `cap` of them.
-pub(crate) fn copied(alloc: Global, cap: u16, tokens: &[Token]) -> Result<Vec<Token>, OutOfMemory>
+pub(crate) fn copy_with_room(
+    alloc: Global,
+    cap: u16,
+    tokens: &[Token],
+) -> Result<Vec<Token>, OutOfMemory>
     ensures items { IfOk result (λ slots. slots.items ≡ tokens.now) }
     ensures room { IfOk result (λ slots. cap ≤ vec_capacity slots) }
 {

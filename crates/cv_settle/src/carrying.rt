@@ -1,8 +1,8 @@
 //! Tokens are carried over the connections of the live actors, each connection by itself.
 
-ghost use Rattle.std.specs.Prelude.{◌<◌, length, is_err};
+ghost use Rattle.std.specs.Prelude.{◌≡◌, ◌<◌, length, true, is_err};
 ghost use Rattle.cv_mesh.specs.Moving.{AreMeshed};
-ghost use Rattle.cv_settle.specs.Settling.{Sweeps};
+ghost use Rattle.cv_settle.specs.Settling.{Sweeps, is_carrying};
 
 use crate::acting::act_at;
 use crate::exchanging::exchange;
@@ -13,7 +13,7 @@ use cv_token::{ActorId, ConnId, OutOfMemory};
 use std::alloc::Global;
 
 /// How many tokens of a connection may be on their way at most.
-const MOST_WINDOW: u32 = 64;
+const MOST_WINDOW: u16 = 64;
 
 /// A connection of a live actor: its outport, and its place among the readers of that.
 #[derive(Clone, Copy)]
@@ -64,42 +64,53 @@ fn rewind(
     Ok(())
 }
 
-/// Sends tokens of a connection until none can be sent; tells whether one was.
-fn send_all(
+/// How tokens are carried.
+#[derive(Clone, Copy)]
+enum Carrier {
+    /// In frames, to a consumer on another node.
+    Send,
+    /// From port to port, to a consumer beside the producer.
+    Pass,
+}
+
+impl Carrier {
+    /// The event that carries a token of the connection.
+    fn event(self, conn: ConnId) -> Event
+        ensures { is_carrying result ≡ true }
+    {
+        match self {
+            Carrier::Send => Event::Send { conn },
+            Carrier::Pass => Event::Pass { conn },
+        }
+    }
+
+    /// How many tokens are carried at once, at most: a window and more, or all that a queue can hold.
+    fn most(self) -> u16 {
+        match self {
+            Carrier::Send => MOST_WINDOW,
+            Carrier::Pass => u16::MAX,
+        }
+    }
+}
+
+/// Carries tokens of a connection until none can be carried; tells whether one was.
+fn carry_tokens(
     alloc: Global,
     stations: &mut [Station],
     at: usize,
     conn: ConnId,
+    carrier: Carrier,
 ) -> Result<bool, OutOfMemory>
     requires meshed { AreMeshed stations.old }
     requires place { at < length stations.old }
     ensures { Sweeps (is_err result) stations.old stations.new }
 {
-    for token in 0..MOST_WINDOW {
-        if !act_at(alloc, stations, at, Event::Send { conn })? {
+    for token in 0..carrier.most() {
+        if !act_at(alloc, stations, at, carrier.event(conn))? {
             return Ok(token > 0);
         }
     }
     Ok(true)
-}
-
-/// Passes tokens of a connection until none can be passed.
-fn pass_all(
-    alloc: Global,
-    stations: &mut [Station],
-    at: usize,
-    conn: ConnId,
-) -> Result<(), OutOfMemory>
-    requires meshed { AreMeshed stations.old }
-    requires place { at < length stations.old }
-    ensures { Sweeps (is_err result) stations.old stations.new }
-{
-    for _token in 0..u16::MAX {
-        if !act_at(alloc, stations, at, Event::Pass { conn })? {
-            return Ok(());
-        }
-    }
-    Ok(())
 }
 
 /// Sends what the consumer on another node has not acknowledged, and has it delivered; tells whether a frame was lost.
@@ -114,7 +125,7 @@ fn resend(
     ensures { Sweeps (is_err result) stations.old stations.new }
 {
     rewind(alloc, stations, at, reader)?;
-    if !send_all(alloc, stations, at, reader.conn)? {
+    if !carry_tokens(alloc, stations, at, reader.conn, Carrier::Send)? {
         return Ok(false);
     }
     exchange(alloc, stations)
@@ -134,7 +145,7 @@ fn carry_to(
     if stations[at].node.live(reader.consumer).is_none() {
         return resend(alloc, stations, at, reader);
     }
-    pass_all(alloc, stations, at, reader.conn)?;
+    carry_tokens(alloc, stations, at, reader.conn, Carrier::Pass)?;
     Ok(false)
 }
 

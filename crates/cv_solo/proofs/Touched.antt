@@ -15,7 +15,7 @@ raised_if true place xs ys same = ap (λ (zs : List ℕ). suc place ∷ zs) same
 raised_if false place xs ys same = same
 
 -- counted from one more, each place is one more
-raised : (place : ℕ) (joins : List Connection) (actor : ℕ) → touching_from (suc place) joins actor ≡ map (λ n. suc n) (touching_from place joins actor)
+raised : (place : ℕ) (connections : List Connection) (actor : ℕ) → touching_from (suc place) connections actor ≡ map (λ n. suc n) (touching_from place connections actor)
 raised place [] actor = refl
 raised place (j ∷ js) actor = raised_if (touches j actor) place (touching_from (suc (suc place)) js actor) (touching_from (suc place) js actor) (raised (suc place) js actor)
 
@@ -52,7 +52,7 @@ here spec actor action out j js s ss true is = later (after spec actor action ou
 here spec actor action out j js s ss false is = later (after spec actor action out) j js s actor ss ∙ ap (λ (x : Stream). x ∷ changed_at_all (after spec actor action out) js (touching js actor) ss) (sym (untouched spec actor action out j s is))
 
 -- what a firing does at the places that touch its actor is what it does to all
-pub streams_touched : (spec : ActorSpec) (actor action : ℕ) (out : List (Option Token)) (joins : List Connection) (streams : List Stream) → length joins ≡ length streams → changed_at_all (λ j s. stream_after spec actor action out j s) joins (touching joins actor) streams ≡ streams_after spec actor action out joins streams
+pub streams_touched : (spec : ActorSpec) (actor action : ℕ) (out : List (Option Token)) (connections : List Connection) (streams : List Stream) → length connections ≡ length streams → changed_at_all (λ j s. stream_after spec actor action out j s) connections (touching connections actor) streams ≡ streams_after spec actor action out connections streams
 streams_touched spec actor action out [] [] as_many = refl
 streams_touched spec actor action out [] (s ∷ ss) as_many = absurd (omega (arith, as_many))
 streams_touched spec actor action out (j ∷ js) [] as_many = none_changed (after spec actor action out) j js (touching (j ∷ js) actor)
@@ -61,7 +61,7 @@ streams_touched spec actor action out (j ∷ js) (s ∷ ss) as_many =
     ∙ ap (λ (xs : List Stream). stream_after spec actor action out j s ∷ xs) (streams_touched spec actor action out js ss (omega (arith, as_many)))
 
 -- the stream at a place is set, and no other
-set_there : (change : Connection → Stream → Stream) (joins : List Connection) (streams : List Stream) (place : ℕ) (j : Connection) (s : Stream) → place < length joins → j ≡ get_or joins place j → s ≡ get_or streams place s → slice_set streams place (change j s) ≡ changed_at change joins place streams
+set_there : (change : Connection → Stream → Stream) (connections : List Connection) (streams : List Stream) (place : ℕ) (j : Connection) (s : Stream) → place < length connections → j ≡ get_or connections place j → s ≡ get_or streams place s → slice_set streams place (change j s) ≡ changed_at change connections place streams
 set_there change [] streams place j s within j_is s_is = absurd (omega (arith, within))
 set_there change (x ∷ xs) [] place j s within j_is s_is = refl
 set_there change (x ∷ xs) (y ∷ ys) zero j s within j_is s_is = ap (λ (z : Connection). change z s ∷ ys) j_is ∙ ap (λ (z : Stream). change x z ∷ ys) s_is
@@ -71,13 +71,13 @@ within_if : (n : ℕ) (b : Bool) (place : ℕ) (ps : List ℕ) → place < n →
 within_if n true place ps less all = (less, all)
 within_if n false place ps less all = all
 
-within_from : (n place : ℕ) (joins : List Connection) (actor : ℕ) → place + length joins ≤ n → AllByRecursion (λ (p : ℕ). p < n) (touching_from place joins actor)
+within_from : (n place : ℕ) (connections : List Connection) (actor : ℕ) → place + length connections ≤ n → AllByRecursion (λ (p : ℕ). p < n) (touching_from place connections actor)
 within_from n place [] actor few = tt
 within_from n place (j ∷ js) actor few = within_if n (touches j actor) place (touching_from (suc place) js actor) (omega (arith, few)) (within_from n (suc place) js actor (omega (arith, few)))
 
 -- each of the places is that of a connection
-pub touching_within : (joins : List Connection) (actor : ℕ) → All (λ place. place < length joins) (touching joins actor)
-touching_within joins actor = All-from_recursion (λ (p : ℕ). p < length joins) (touching joins actor) (within_from (length joins) 0 joins actor (omega arith))
+pub touching_within : (connections : List Connection) (actor : ℕ) → All (λ place. place < length connections) (touching connections actor)
+touching_within connections actor = All-from_recursion (λ (p : ℕ). p < length connections) (touching connections actor) (within_from (length connections) 0 connections actor (omega arith))
 
 -- the tokens that wait at an inport, where it is that of the connection at a place
 abbrev pub waiting_there : List Connection → ℕ → List Stream → ℕ → ℕ → List Token → List Token
@@ -88,8 +88,8 @@ waiting_there (j ∷ js) (suc place) (s ∷ ss) actor port rest = waiting_there 
 
 -- the same for the connections at these places
 abbrev pub waiting_at : List Connection → List ℕ → List Stream → ℕ → ℕ → List Token
-waiting_at joins [] streams actor port = []
-waiting_at joins (p ∷ ps) streams actor port = waiting_there joins p streams actor port (waiting_at joins ps streams actor port)
+waiting_at connections [] streams actor port = []
+waiting_at connections (p ∷ ps) streams actor port = waiting_there connections p streams actor port (waiting_at connections ps streams actor port)
 
 nothing_waits : (j : Connection) (js : List Connection) (places : List ℕ) (actor port : ℕ) → waiting_at (j ∷ js) places [] actor port ≡ []
 nothing_waits j js [] actor port = refl
@@ -109,40 +109,40 @@ waits_here j js s ss actor port rest false is same =
     ∙ sym (ap (λ (b : Bool). if b && (j.inp == port) then drop s.took s.wrote else rest) ((neither (j.to == actor) (j.from == actor) is).0))
 
 -- what waits at an actor's inport waits at one of the places that touch the actor
-pub waiting_touched : (joins : List Connection) (streams : List Stream) (actor port : ℕ) → waiting_at joins (touching joins actor) streams actor port ≡ waiting joins streams actor port
+pub waiting_touched : (connections : List Connection) (streams : List Stream) (actor port : ℕ) → waiting_at connections (touching connections actor) streams actor port ≡ waiting connections streams actor port
 waiting_touched [] streams actor port = refl
 waiting_touched (j ∷ js) [] actor port = nothing_waits j js (touching (j ∷ js) actor) actor port
 waiting_touched (j ∷ js) (s ∷ ss) actor port = waits_here j js s ss actor port (waiting js ss actor port) (touches j actor) refl (waiting_touched js ss actor port)
 
 -- what waits at the connection that is read
-waits_there : (joins : List Connection) (streams : List Stream) (place : ℕ) (j : Connection) (s : Stream) (actor port : ℕ) (rest : List Token) → length joins ≡ length streams → place < length joins → waiting_there joins place streams actor port rest ≡ (if ((get_or joins place j).to == actor) && ((get_or joins place j).inp == port) then drop (get_or streams place s).took (get_or streams place s).wrote else rest)
+waits_there : (connections : List Connection) (streams : List Stream) (place : ℕ) (j : Connection) (s : Stream) (actor port : ℕ) (rest : List Token) → length connections ≡ length streams → place < length connections → waiting_there connections place streams actor port rest ≡ (if ((get_or connections place j).to == actor) && ((get_or connections place j).inp == port) then drop (get_or streams place s).took (get_or streams place s).wrote else rest)
 waits_there [] streams place j s actor port rest as_many within = absurd (omega (arith, within))
 waits_there (x ∷ xs) [] place j s actor port rest as_many within = absurd (omega (arith, as_many))
 waits_there (x ∷ xs) (y ∷ ys) zero j s actor port rest as_many within = refl
 waits_there (x ∷ xs) (y ∷ ys) (suc place) j s actor port rest as_many within = waits_there xs ys place j s actor port rest (omega (arith, as_many)) (omega (arith, within))
 
-waits_next : (joins : List Connection) (places : List ℕ) (streams : List Stream) (actor port i : ℕ) (d : ℕ) (j : Connection) (s : Stream) → length joins ≡ length streams → i < length places → All (λ place. place < length joins) places → (b : Bool) → b ≡ (((get_or joins (get_or places i d) j).to == actor) && ((get_or joins (get_or places i d) j).inp == port)) → waiting_at joins (drop i places) streams actor port ≡ (if b then drop (get_or streams (get_or places i d) s).took (get_or streams (get_or places i d) s).wrote else waiting_at joins (drop (i + 1) places) streams actor port)
-waits_next joins places streams actor port i d j s as_many less within b feeds =
-    ap (λ (ps : List ℕ). waiting_at joins ps streams actor port) (drop_more places i d less)
-    ∙ waits_there joins streams (get_or places i d) j s actor port (waiting_at joins (drop (i + 1) places) streams actor port) as_many (within i d less)
-    ∙ sym (ap (λ (b : Bool). if b then drop (get_or streams (get_or places i d) s).took (get_or streams (get_or places i d) s).wrote else waiting_at joins (drop (i + 1) places) streams actor port) feeds)
+waits_next : (connections : List Connection) (places : List ℕ) (streams : List Stream) (actor port i : ℕ) (d : ℕ) (j : Connection) (s : Stream) → length connections ≡ length streams → i < length places → All (λ place. place < length connections) places → (b : Bool) → b ≡ (((get_or connections (get_or places i d) j).to == actor) && ((get_or connections (get_or places i d) j).inp == port)) → waiting_at connections (drop i places) streams actor port ≡ (if b then drop (get_or streams (get_or places i d) s).took (get_or streams (get_or places i d) s).wrote else waiting_at connections (drop (i + 1) places) streams actor port)
+waits_next connections places streams actor port i d j s as_many less within b feeds =
+    ap (λ (ps : List ℕ). waiting_at connections ps streams actor port) (drop_more places i d less)
+    ∙ waits_there connections streams (get_or places i d) j s actor port (waiting_at connections (drop (i + 1) places) streams actor port) as_many (within i d less)
+    ∙ sym (ap (λ (b : Bool). if b then drop (get_or streams (get_or places i d) s).took (get_or streams (get_or places i d) s).wrote else waiting_at connections (drop (i + 1) places) streams actor port) feeds)
 
 -- at the connection that feeds the inport
-pub waits_at_this : (joins : List Connection) (places : List ℕ) (streams : List Stream) (actor port i : ℕ) (d : ℕ) (j : Connection) (s : Stream) (whole : List Token) → length joins ≡ length streams → i < length places → All (λ place. place < length joins) places → true ≡ (((get_or joins (get_or places i d) j).to == actor) && ((get_or joins (get_or places i d) j).inp == port)) → waiting_at joins (drop i places) streams actor port ≡ whole → drop (get_or streams (get_or places i d) s).took (get_or streams (get_or places i d) s).wrote ≡ whole
-waits_at_this joins places streams actor port i d j s whole as_many less within feeds before = sym (waits_next joins places streams actor port i d j s as_many less within true feeds) ∙ before
+pub waits_at_this : (connections : List Connection) (places : List ℕ) (streams : List Stream) (actor port i : ℕ) (d : ℕ) (j : Connection) (s : Stream) (whole : List Token) → length connections ≡ length streams → i < length places → All (λ place. place < length connections) places → true ≡ (((get_or connections (get_or places i d) j).to == actor) && ((get_or connections (get_or places i d) j).inp == port)) → waiting_at connections (drop i places) streams actor port ≡ whole → drop (get_or streams (get_or places i d) s).took (get_or streams (get_or places i d) s).wrote ≡ whole
+waits_at_this connections places streams actor port i d j s whole as_many less within feeds before = sym (waits_next connections places streams actor port i d j s as_many less within true feeds) ∙ before
 
 -- past one that does not
-pub waits_at_others : (joins : List Connection) (places : List ℕ) (streams : List Stream) (actor port i : ℕ) (d : ℕ) (j : Connection) (whole : List Token) → length joins ≡ length streams → i < length places → All (λ place. place < length joins) places → false ≡ (((get_or joins (get_or places i d) j).to == actor) && ((get_or joins (get_or places i d) j).inp == port)) → waiting_at joins (drop i places) streams actor port ≡ whole → waiting_at joins (drop (i + 1) places) streams actor port ≡ whole
-waits_at_others joins places streams actor port i d j whole as_many less within feeds before = sym (waits_next joins places streams actor port i d j (record { wrote = []; took = 0 }) as_many less within false feeds) ∙ before
+pub waits_at_others : (connections : List Connection) (places : List ℕ) (streams : List Stream) (actor port i : ℕ) (d : ℕ) (j : Connection) (whole : List Token) → length connections ≡ length streams → i < length places → All (λ place. place < length connections) places → false ≡ (((get_or connections (get_or places i d) j).to == actor) && ((get_or connections (get_or places i d) j).inp == port)) → waiting_at connections (drop i places) streams actor port ≡ whole → waiting_at connections (drop (i + 1) places) streams actor port ≡ whole
+waits_at_others connections places streams actor port i d j whole as_many less within feeds before = sym (waits_next connections places streams actor port i d j (record { wrote = []; took = 0 }) as_many less within false feeds) ∙ before
 
 -- the first place is one of them
 pub first_within : (n : ℕ) (places rest : List ℕ) (place : ℕ) → places ≡ place ∷ rest → All (λ p. p < n) places → place < n
 first_within n places rest place split within = subst (λ (ps : List ℕ). All (λ (p : ℕ). p < n) ps) split within 0 0 (omega arith)
 
 -- what is done at the first place, and then at the rest, is done at all
-pub next_changed : (change : Connection → Stream → Stream) (joins : List Connection) (places rest : List ℕ) (streams last : List Stream) (place : ℕ) (j : Connection) (old new : Stream) → places ≡ place ∷ rest → place < length joins → j ≡ get_or joins place j → old ≡ get_or streams place old → new ≡ change j old → last ≡ changed_at_all change joins rest (slice_set streams place new) → last ≡ changed_at_all change joins places streams
-next_changed change joins places rest streams last place j old new split within j_is old_is new_is last_is =
+pub next_changed : (change : Connection → Stream → Stream) (connections : List Connection) (places rest : List ℕ) (streams last : List Stream) (place : ℕ) (j : Connection) (old new : Stream) → places ≡ place ∷ rest → place < length connections → j ≡ get_or connections place j → old ≡ get_or streams place old → new ≡ change j old → last ≡ changed_at_all change connections rest (slice_set streams place new) → last ≡ changed_at_all change connections places streams
+next_changed change connections places rest streams last place j old new split within j_is old_is new_is last_is =
     last_is
-    ∙ ap (λ (s : Stream). changed_at_all change joins rest (slice_set streams place s)) new_is
-    ∙ ap (λ (ss : List Stream). changed_at_all change joins rest ss) (set_there change joins streams place j old within j_is old_is)
-    ∙ ap (λ (ps : List ℕ). changed_at_all change joins ps streams) (sym split)
+    ∙ ap (λ (s : Stream). changed_at_all change connections rest (slice_set streams place s)) new_is
+    ∙ ap (λ (ss : List Stream). changed_at_all change connections rest ss) (set_there change connections streams place j old within j_is old_is)
+    ∙ ap (λ (ps : List ℕ). changed_at_all change connections ps streams) (sym split)

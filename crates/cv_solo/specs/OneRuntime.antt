@@ -29,8 +29,8 @@ waiting (j ∷ js) (s ∷ ss) actor port = if (j.to == actor) && (j.inp == port)
 
 -- the same for `count` inports from number `port` on
 abbrev pub inputs_from : List Connection → List Stream → ℕ → ℕ → ℕ → List (List Token)
-inputs_from joins streams actor port zero = []
-inputs_from joins streams actor port (suc count) = waiting joins streams actor port ∷ inputs_from joins streams actor (suc port) count
+inputs_from connections streams actor port zero = []
+inputs_from connections streams actor port (suc count) = waiting connections streams actor port ∷ inputs_from connections streams actor (suc port) count
 
 -- a connection after a firing of an actor: of the tokens that wait at its inport those needed are taken, and the token
 -- given to its outport is written
@@ -50,19 +50,19 @@ streams_after spec actor action out (j ∷ js) (s ∷ ss) = stream_after spec ac
 
 -- a firing is allowed where its action is ready on the slots and on what waits at the inports
 abbrev pub inputs_of : ActorSpec → List Connection → List Stream → ℕ → List (List Token)
-inputs_of spec joins streams actor = inputs_from joins streams actor 0 (row_of spec.kind).inports
+inputs_of spec connections streams actor = inputs_from connections streams actor 0 (row_of spec.kind).inports
 
 abbrev pub ready_of : ActorSpec → List Connection → ℕ → ℕ → List Token → List Stream → Bool
-ready_of spec joins actor action slots streams = is_ready (row_of spec.kind) spec.args slots action (inputs_of spec joins streams actor)
+ready_of spec connections actor action slots streams = is_ready (row_of spec.kind) spec.args slots action (inputs_of spec connections streams actor)
 
 abbrev pub effect_at : ActorSpec → List Connection → ℕ → ℕ → List Token → List Stream → Effect
-effect_at spec joins actor action slots streams = effect_of (row_of spec.kind) spec.args slots action (heads_of (row_of spec.kind) spec.args action 0 (inputs_of spec joins streams actor))
+effect_at spec connections actor action slots streams = effect_of (row_of spec.kind) spec.args slots action (heads_of (row_of spec.kind) spec.args action 0 (inputs_of spec connections streams actor))
 
 -- what one firing does to the actor's slots and to the streams
-pub record FiresOne (spec : ActorSpec) (joins : List Connection) (actor action : ℕ) (slots : List Token) (streams : List Stream) (slots_after : List Token) (all_after : List Stream) : Type 0 where
-  pub ready : ready_of spec joins actor action slots streams ≡ true
-  pub slots_are : slots_after ≡ (effect_at spec joins actor action slots streams).state
-  pub streams_are : all_after ≡ streams_after spec actor action (effect_at spec joins actor action slots streams).out joins streams
+pub record FiresOne (spec : ActorSpec) (connections : List Connection) (actor action : ℕ) (slots : List Token) (streams : List Stream) (slots_after : List Token) (all_after : List Stream) : Type 0 where
+  pub ready : ready_of spec connections actor action slots streams ≡ true
+  pub slots_are : slots_after ≡ (effect_at spec connections actor action slots streams).state
+  pub streams_are : all_after ≡ streams_after spec actor action (effect_at spec connections actor action slots streams).out connections streams
 
 abbrev pub fired_if : Net → Runtime → ℕ → ActorSpec → ℕ → List Token → Bool → Option Runtime
 fired_if net r actor spec action slots false = None

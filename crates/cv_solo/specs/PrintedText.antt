@@ -44,7 +44,7 @@ pub record InPathOrder (actors : List ActorSpec) (order : List (List ℕ × ℕ)
 
 -- the lines of prints in that order: one for each token taken
 abbrev pub lines_of : List Connection → List Stream → List (List ℕ × ℕ) → List ℕ
-lines_of joins streams order = flat_map (λ p. print_lines p.0 (taken_at joins streams p.1 0)) order
+lines_of connections streams order = flat_map (λ p. print_lines p.0 (taken_at connections streams p.1 0)) order
 
 -- the text that the prints of a network have printed
 pub record IsPrinted (net : Net) (streams : List Stream) (text : List ℕ) : Type 0 where

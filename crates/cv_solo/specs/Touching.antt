@@ -13,12 +13,12 @@ touching_from place [] actor = []
 touching_from place (j ∷ js) actor = (if touches j actor then place ∷ [] else []) ++ touching_from (suc place) js actor
 
 abbrev pub touching : List Connection → ℕ → List ℕ
-touching joins actor = touching_from 0 joins actor
+touching connections actor = touching_from 0 connections actor
 
 -- each actor has the places of the connections that touch it
-pub record AreTouching (places : List (List ℕ)) (joins : List Connection) (actors : ℕ) : Type 0 where
+pub record AreTouching (places : List (List ℕ)) (connections : List Connection) (actors : ℕ) : Type 0 where
   pub by_actor : length places ≡ actors
-  pub each : (actor : ℕ) → actor < actors → slice_index_or places actor [] ≡ touching joins actor
+  pub each : (actor : ℕ) → actor < actors → slice_index_or places actor [] ≡ touching connections actor
 
 -- the actors that pass the test have one place more at the end, the others what they had
 pub record IsNoted (test : ℕ → Bool) (place : ℕ) (before after : List (List ℕ)) : Type 0 where
@@ -34,5 +34,5 @@ changed_at change (j ∷ js) (suc place) (s ∷ ss) = s ∷ changed_at change js
 
 -- the same at each of these places
 abbrev pub changed_at_all : (Connection → Stream → Stream) → List Connection → List ℕ → List Stream → List Stream
-changed_at_all change joins [] streams = streams
-changed_at_all change joins (place ∷ places) streams = changed_at_all change joins places (changed_at change joins place streams)
+changed_at_all change connections [] streams = streams
+changed_at_all change connections (place ∷ places) streams = changed_at_all change connections places (changed_at change connections place streams)

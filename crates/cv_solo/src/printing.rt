@@ -12,15 +12,20 @@ use std::alloc::Global;
 
 /// The tokens that were taken at an inport.
 #[tactic(auto, using(crate::proofs::Inputs::taken_past))]
-fn taken_at<'a>(joins: &[Connection], streams: &'a [Stream], actor: u16, port: u8) -> &'a [Token]
-    ensures { result.now ≡ taken_at joins.now streams.now actor port }
+fn taken_at<'a>(
+    connections: &[Connection],
+    streams: &'a [Stream],
+    actor: u16,
+    port: u8,
+) -> &'a [Token]
+    ensures { result.now ≡ taken_at connections.now streams.now actor port }
 {
-    for (place, join) in joins.iter().enumerate() {
+    for (place, connection) in connections.iter().enumerate() {
         if place >= streams.len() {
             return &[];
         }
         let stream = &streams[place];
-        if feeds(join, actor, port) {
+        if feeds(connection, actor, port) {
             return taken_of(stream);
         }
     }

@@ -127,24 +127,24 @@ impl Solo {
 fn fire_one(
     alloc: Global,
     spec: &ActorSpec,
-    joins: &[Connection],
+    connections: &[Connection],
     places: &[usize],
     slots: &mut Items,
     streams: &mut Vec<Stream>,
     actor: u16,
     action: u8,
 ) -> Result<(), SoloFault>
-    requires by_connection { length joins.now ≡ vec_len streams.old }
-    requires touching { places.now ≡ touching joins.now actor }
+    requires by_connection { length connections.now ≡ vec_len streams.old }
+    requires touching { places.now ≡ touching connections.now actor }
     ensures len { vec_len streams.new ≡ vec_len streams.old }
-    ensures fired { OnOk result (FiresOne spec.now joins.now actor action slots.old streams.old.items slots.new streams.new.items) }
-    ensures not_enabled { result ≡ Err SoloFault.NotEnabled → ready_of spec.now joins.now actor action slots.old streams.old.items ≡ false }
-    ensures only { ready_of spec.now joins.now actor action slots.old streams.old.items ≡ false → result ≡ Err SoloFault.NotEnabled }
+    ensures fired { OnOk result (FiresOne spec.now connections.now actor action slots.old streams.old.items slots.new streams.new.items) }
+    ensures not_enabled { result ≡ Err SoloFault.NotEnabled → ready_of spec.now connections.now actor action slots.old streams.old.items ≡ false }
+    ensures only { ready_of spec.now connections.now actor action slots.old streams.old.items ≡ false → result ≡ Err SoloFault.NotEnabled }
     ensures err { OnErr result ((slots.new ≡ slots.old) × (streams.new.items ≡ streams.old.items)) }
 {
     if !is_ready(
         spec,
-        joins,
+        connections,
         places,
         streams.as_slice(),
         slots,
@@ -156,14 +156,23 @@ fn fire_one(
     let heads = copied_heads(
         alloc,
         spec,
-        joins,
+        connections,
         places,
         streams.as_slice(),
         actor,
         action,
     )?;
     let Effect { state, out } = spec.kind.effect(alloc, &spec.args, slots, action, &heads)?;
-    advance_all(alloc, spec, actor, action, &out, joins, places, streams)?;
+    advance_all(
+        alloc,
+        spec,
+        actor,
+        action,
+        &out,
+        connections,
+        places,
+        streams,
+    )?;
     *slots = state;
     Ok(())
 }
@@ -171,36 +180,36 @@ fn fire_one(
 /// Whether the action is ready on the slots and on what waits at the inports.
 fn is_ready(
     spec: &ActorSpec,
-    joins: &[Connection],
+    connections: &[Connection],
     places: &[usize],
     streams: &[Stream],
     slots: &Items,
     actor: u16,
     action: u8,
 ) -> bool
-    requires by_connection { length joins.now ≡ length streams.now }
-    requires touching { places.now ≡ touching joins.now actor }
-    ensures { result ≡ ready_of spec.now joins.now actor action slots.now streams.now }
+    requires by_connection { length connections.now ≡ length streams.now }
+    requires touching { places.now ≡ touching connections.now actor }
+    ensures { result ≡ ready_of spec.now connections.now actor action slots.now streams.now }
 {
-    let head = guard_head(spec, joins, places, streams, actor);
-    has_counts(spec, joins, places, streams, actor, action)
+    let head = guard_head(spec, connections, places, streams, actor);
+    has_counts(spec, connections, places, streams, actor, action)
         && spec.kind.guard(&spec.args, slots, action, head)
 }
 
 /// The first token that waits at the guard port.
 fn guard_head<'a>(
     spec: &ActorSpec,
-    joins: &[Connection],
+    connections: &[Connection],
     places: &[usize],
     streams: &'a [Stream],
     actor: u16,
 ) -> Option<&'a Token>
-    requires by_connection { length joins.now ≡ length streams.now }
-    requires touching { places.now ≡ touching joins.now actor }
-    ensures { option_copied result ≡ head_at (row_of spec.now.kind).guard_port (inputs_of spec.now joins.now streams.now actor) }
+    requires by_connection { length connections.now ≡ length streams.now }
+    requires touching { places.now ≡ touching connections.now actor }
+    ensures { option_copied result ≡ head_at (row_of spec.now.kind).guard_port (inputs_of spec.now connections.now streams.now actor) }
 {
     let port = spec.kind.guard_port()?;
-    waiting(joins, places, streams, actor, port).first()
+    waiting_tokens(connections, places, streams, actor, port).first()
 }
 
 /// What a firing did to a connection.
@@ -220,14 +229,14 @@ fn advance_all(
     actor: u16,
     action: u8,
     out: &Outs,
-    joins: &[Connection],
+    connections: &[Connection],
     places: &[usize],
     streams: &mut Vec<Stream>,
 ) -> Result<(), OutOfMemory>
-    requires by_connection { length joins.now ≡ vec_len streams.old }
-    requires within { All (λ place. place < length joins.now) places.now }
+    requires by_connection { length connections.now ≡ vec_len streams.old }
+    requires within { All (λ place. place < length connections.now) places.now }
     ensures len { vec_len streams.new ≡ vec_len streams.old }
-    ensures after { OnOk result (streams.new.items ≡ changed_at_all (λ j s. stream_after spec.now actor action out.now j s) joins.now places.now streams.old.items) }
+    ensures after { OnOk result (streams.new.items ≡ changed_at_all (λ j s. stream_after spec.now actor action out.now j s) connections.now places.now streams.old.items) }
     ensures err { OnErr result (streams.new.items ≡ streams.old.items) }
 {
     let Some((first, rest)) = places.split_first() else {
@@ -240,10 +249,10 @@ fn advance_all(
         actor,
         action,
         out,
-        &joins[place],
+        &connections[place],
         &mut streams[place],
     )?;
-    let rest = advance_all(alloc, spec, actor, action, out, joins, rest, streams);
+    let rest = advance_all(alloc, spec, actor, action, out, connections, rest, streams);
     if let Err(error) = rest {
         retreat(change, &mut streams[place]);
         return Err(error);
@@ -258,15 +267,15 @@ fn advance(
     actor: u16,
     action: u8,
     out: &Outs,
-    join: &Connection,
+    connection: &Connection,
     stream: &mut Stream,
 ) -> Result<Change, OutOfMemory>
-    ensures after { OnOk result (stream.new ≡ stream_after spec.now actor action out.now join.now stream.old) }
+    ensures after { OnOk result (stream.new ≡ stream_after spec.now actor action out.now connection.now stream.old) }
     ensures back { IfOk result (λ change. (change.taken ≤ stream.new.took) × (undone change stream.new ≡ stream.old)) }
     ensures err { OnErr result (stream.new ≡ stream.old) }
 {
-    let taken = taken_from(spec, actor, action, join, stream);
-    let gave = give(alloc, actor, out, join, &mut stream.wrote)?;
+    let taken = taken_from(spec, actor, action, connection, stream);
+    let gave = give(alloc, actor, out, connection, &mut stream.wrote)?;
     stream.took += taken;
     Ok(Change { taken, gave })
 }
@@ -288,17 +297,17 @@ fn give(
     alloc: Global,
     actor: u16,
     out: &Outs,
-    join: &Connection,
+    connection: &Connection,
     wrote: &mut Items,
 ) -> Result<bool, OutOfMemory>
-    ensures after { OnOk result (wrote.new ≡ wrote.old ++ given_on out.now actor join.now) }
+    ensures after { OnOk result (wrote.new ≡ wrote.old ++ given_on out.now actor connection.now) }
     ensures back { IfOk result (λ gave. (if gave then without_last wrote.new else wrote.new) ≡ wrote.old) }
     ensures err { OnErr result (wrote.new ≡ wrote.old) }
 {
-    if join.from != actor {
+    if connection.from != actor {
         return Ok(false);
     }
-    match out.get(join.out as usize) {
+    match out.get(connection.out as usize) {
         Some(Some(token)) => {
             wrote.push(token.copy(alloc)?)?;
             Ok(true)
@@ -308,16 +317,22 @@ fn give(
 }
 
 /// How many tokens a firing takes from a connection.
-fn taken_from(spec: &ActorSpec, actor: u16, action: u8, join: &Connection, stream: &Stream) -> u64
-    ensures taken { result ≡ taken_on spec.now actor action join.now stream.now }
+fn taken_from(
+    spec: &ActorSpec,
+    actor: u16,
+    action: u8,
+    connection: &Connection,
+    stream: &Stream,
+) -> u64
+    ensures taken { result ≡ taken_on spec.now actor action connection.now stream.now }
     ensures fits { stream.now.took + result < 2 ^ 64 }
 {
     let took = stream.took;
-    if join.to != actor {
+    if connection.to != actor {
         return 0;
     }
     let waits = (stream.wrote.len() as u64).saturating_sub(took);
-    u64::from(spec.kind.needs(&spec.args, action, join.inp)).min(waits)
+    u64::from(spec.kind.needs(&spec.args, action, connection.inp)).min(waits)
 }
 
 /// The slots of each actor at the start.
@@ -347,19 +362,19 @@ fn empty_streams(alloc: Global, count: usize) -> Result<Vec<Stream>, OutOfMemory
 
 /// The tokens that wait at an inport of an actor.
 #[tactic(auto, using(crate::proofs::Touched::waiting_touched, crate::proofs::Touched::touching_within))]
-fn waiting<'a>(
-    joins: &[Connection],
+fn waiting_tokens<'a>(
+    connections: &[Connection],
     places: &[usize],
     streams: &'a [Stream],
     actor: u16,
     port: u8,
 ) -> &'a [Token]
-    requires by_connection { length joins.now ≡ length streams.now }
-    requires touching { places.now ≡ touching joins.now actor }
-    ensures { result.now ≡ waiting joins.now streams.now actor port }
+    requires by_connection { length connections.now ≡ length streams.now }
+    requires touching { places.now ≡ touching connections.now actor }
+    ensures { result.now ≡ waiting connections.now streams.now actor port }
 {
     for place in places {
-        if feeds(&joins[*place], actor, port) {
+        if feeds(&connections[*place], actor, port) {
             return left_of(&streams[*place]);
         }
     }
@@ -367,10 +382,10 @@ fn waiting<'a>(
 }
 
 /// Whether a connection feeds the inport.
-pub(crate) fn feeds(join: &Connection, actor: u16, port: u8) -> bool
-    ensures { result ≡ ((join.now.to == actor) && (join.now.inp == port)) }
+pub(crate) fn feeds(connection: &Connection, actor: u16, port: u8) -> bool
+    ensures { result ≡ ((connection.now.to == actor) && (connection.now.inp == port)) }
 {
-    join.to == actor && join.inp == port
+    connection.to == actor && connection.inp == port
 }
 
 /// The tokens of a stream that were not taken.
@@ -389,19 +404,19 @@ fn left_of(stream: &Stream) -> &[Token]
 #[tactic(auto, using(crate::proofs::Inputs::inputs_next))]
 fn has_counts(
     spec: &ActorSpec,
-    joins: &[Connection],
+    connections: &[Connection],
     places: &[usize],
     streams: &[Stream],
     actor: u16,
     action: u8,
 ) -> bool
-    requires by_connection { length joins.now ≡ length streams.now }
-    requires touching { places.now ≡ touching joins.now actor }
-    ensures { result ≡ has_counts (row_of spec.now.kind) spec.now.args action 0 (inputs_from joins.now streams.now actor 0 (row_of spec.now.kind).inports) }
+    requires by_connection { length connections.now ≡ length streams.now }
+    requires touching { places.now ≡ touching connections.now actor }
+    ensures { result ≡ has_counts (row_of spec.now.kind) spec.now.args action 0 (inputs_from connections.now streams.now actor 0 (row_of spec.now.kind).inports) }
 {
     for port in 0..spec.kind.inports() {
         let needed = spec.kind.needs(&spec.args, action, port);
-        if waiting(joins, places, streams, actor, port).len() < needed as usize {
+        if waiting_tokens(connections, places, streams, actor, port).len() < needed as usize {
             return false;
         }
     }
@@ -413,22 +428,22 @@ fn has_counts(
 fn copied_heads(
     alloc: Global,
     spec: &ActorSpec,
-    joins: &[Connection],
+    connections: &[Connection],
     places: &[usize],
     streams: &[Stream],
     actor: u16,
     action: u8,
 ) -> Result<Items, OutOfMemory>
-    requires by_connection { length joins.now ≡ length streams.now }
-    requires touching { places.now ≡ touching joins.now actor }
-    ensures { IfOk result (λ heads. heads ≡ heads_of (row_of spec.now.kind) spec.now.args action 0 (inputs_from joins.now streams.now actor 0 (row_of spec.now.kind).inports)) }
+    requires by_connection { length connections.now ≡ length streams.now }
+    requires touching { places.now ≡ touching connections.now actor }
+    ensures { IfOk result (λ heads. heads ≡ heads_of (row_of spec.now.kind) spec.now.args action 0 (inputs_from connections.now streams.now actor 0 (row_of spec.now.kind).inports)) }
 {
     let mut heads = Items::new(alloc);
     for port in 0..spec.kind.inports() {
         let needed = spec.kind.needs(&spec.args, action, port);
         copy_first(
             alloc,
-            waiting(joins, places, streams, actor, port),
+            waiting_tokens(connections, places, streams, actor, port),
             needed,
             &mut heads,
         )?;

@@ -14,13 +14,13 @@ pub(crate) type Places = sqlite_items::Items<usize>;
 pub(crate) fn places_by_actor(
     alloc: Global,
     actors: usize,
-    joins: &[Connection],
+    connections: &[Connection],
 ) -> Result<Vec<Places>, OutOfMemory>
-    ensures { IfOk result (λ places. AreTouching places.items joins.now actors) }
+    ensures { IfOk result (λ places. AreTouching places.items connections.now actors) }
 {
     let mut places = no_places(alloc, actors)?;
-    for (place, join) in joins.iter().enumerate() {
-        note(&mut places, join, place)?;
+    for (place, connection) in connections.iter().enumerate() {
+        note(&mut places, connection, place)?;
     }
     Ok(places)
 }
@@ -37,12 +37,12 @@ fn no_places(alloc: Global, actors: usize) -> Result<Vec<Places>, OutOfMemory>
 }
 
 /// Notes a connection's place for the actors that it touches.
-fn note(places: &mut Vec<Places>, join: &Connection, place: usize) -> Result<(), OutOfMemory>
-    ensures { OnOk result (IsNoted (touches join.now) place places.old.items places.new.items) }
+fn note(places: &mut Vec<Places>, connection: &Connection, place: usize) -> Result<(), OutOfMemory>
+    ensures { OnOk result (IsNoted (touches connection.now) place places.old.items places.new.items) }
 {
-    note_for(places, join.to, place)?;
-    if join.from != join.to {
-        note_for(places, join.from, place)?;
+    note_for(places, connection.to, place)?;
+    if connection.from != connection.to {
+        note_for(places, connection.from, place)?;
     }
     Ok(())
 }

@@ -34,14 +34,19 @@ pub fn run_spread<R: Threads + Sync, G: Gate>(
     requires wired { IsWired net }
     ensures { IfOk result (λ run. IsSpreadRun net nodes items.items most run.0 run.1) }
 {
-    let mut cluster = opened(alloc, net, nodes, items)?;
+    let mut cluster = open_cluster(alloc, net, nodes, items)?;
     let stop = cluster.run(rt, alloc, most, gate)?;
     let merged = record_of(alloc, cluster)?;
     Ok((stop, merged))
 }
 
 /// The cluster of the nodes 1 to `nodes` with the network's actors in their places.
-fn opened(alloc: Global, net: Network, nodes: u16, items: Vec<Item>) -> Result<Cluster, OutOfMemory>
+fn open_cluster(
+    alloc: Global,
+    net: Network,
+    nodes: u16,
+    items: Vec<Item>,
+) -> Result<Cluster, OutOfMemory>
     requires nodes { (2 ≤ nodes) × (nodes ≤ 16) }
     requires items { ItemsFit nodes items.items }
     ensures { IfOk result (λ c. c ≡ opened_cluster nodes net items.items) }

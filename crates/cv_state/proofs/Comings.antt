@@ -57,10 +57,10 @@ seat_filled conn l inp h p =
 
 -- the token is offered as the code was told
 pub offered : (s : NodeState) (stamp sender : ℕ) (conn : ConnId) (a : ActorId) (n : ℕ) (t : Token) (l : LiveState) (inp : ℕ) (h : Seated conn l inp) (port p : InView) (ends : ConnId × ActorId) (answer : Answer) (b : Body) (what : Sent) → Some l ≡ map.get s.live a → port ≡ h.seat.inlet.port → ends ≡ (h.seat.inlet.conn, h.seat.inlet.producer) → p ≡ after_offer port n t → answer ≡ answer_of port n t → b ≡ told ends.0 ends.1 answer → frames_of what ≡ frame_to s stamp sender b ∷ [] → true ≡ nat_lt (received (after_offer port n t)) limit → Does (token_comes s stamp sender conn a n t (map.get s.live a)) (record s { live = map.insert s.live a (with_inport l inp p) }) what
-offered s stamp sender conn a n t l inp h port p ends answer b what here is joins after answers says sent fits =
+offered s stamp sender conn a n t l inp h port p ends answer b what here is connections after answers says sent fits =
     let i = h.seat.inlet in
     let next = ap (λ (x : LiveState). record s { live = map.insert s.live a x }) (seat_filled conn l inp h p ∙ ap (λ (q : InView). with_inlet l h.seat.inp (record i { port = q })) (after ∙ ap (λ (q : InView). after_offer q n t) is)) in
-    let said = says ∙ ap (λ (e : ConnId × ActorId). told e.0 e.1 answer) joins ∙ ap (told i.conn i.producer) (answers ∙ ap (λ (q : InView). answer_of q n t) is) in
+    let said = says ∙ ap (λ (e : ConnId × ActorId). told e.0 e.1 answer) connections ∙ ap (told i.conn i.producer) (answers ∙ ap (λ (q : InView). answer_of q n t) is) in
     let frames = sent ∙ ap (λ (x : Body). frame_to s stamp sender x ∷ []) said in
     subst (λ (d : Did). Does d (record s { live = map.insert s.live a (with_inport l inp p) }) what) (sym (offers s stamp sender conn a n t l inp h here)) (next, frames, sym (ap (λ (q : InView). nat_lt (received (after_offer q n t)) limit) is) ∙ sym fits)
 

@@ -18,13 +18,13 @@ use Rattle.cv_state.specs.Deploying.{all_settled, are_due, deployed_known, new_l
 use Rattle.cv_state.proofs.Local.{spent}
 
 -- the actors at the start live here
-pub settles : (app : AppId) (joins : List Connection) (now actor : ℕ) (specs : List ActorSpec) (live : map.FinMap actor_cmp LiveState) → all_settled app actor (new_lives app joins now actor specs) live ≡ all_live app joins now actor specs live
-settles app joins now actor [] live = refl
-settles app joins now actor (spec ∷ specs) live = settles app joins now (suc actor) specs _
+pub settles : (app : AppId) (connections : List Connection) (now actor : ℕ) (specs : List ActorSpec) (live : map.FinMap actor_cmp LiveState) → all_settled app actor (new_lives app connections now actor specs) live ≡ all_live app connections now actor specs live
+settles app connections now actor [] live = refl
+settles app connections now actor (spec ∷ specs) live = settles app connections now (suc actor) specs _
 
-pub lives_count : (app : AppId) (joins : List Connection) (now actor : ℕ) (specs : List ActorSpec) → length (new_lives app joins now actor specs) ≡ length specs
-lives_count app joins now actor [] = refl
-lives_count app joins now actor (spec ∷ specs) = ap suc (lives_count app joins now (suc actor) specs)
+pub lives_count : (app : AppId) (connections : List Connection) (now actor : ℕ) (specs : List ActorSpec) → length (new_lives app connections now actor specs) ≡ length specs
+lives_count app connections now actor [] = refl
+lives_count app connections now actor (spec ∷ specs) = ap suc (lives_count app connections now (suc actor) specs)
 
 -- the state once each table was written
 pub installed : (s : NodeState) (name : List ℕ) (net : Net) (app : AppId) (known : Known) (live : map.FinMap actor_cmp LiveState) (moves : Moves) (hints : map.FinMap actor_cmp Location) (lives : List LiveState) → known ≡ deployed_known s.known app name net → lives ≡ new_lives app net.connections s.now 0 net.actors → live ≡ all_settled app 0 lives (map.retain_keys s.live (elsewhere app)) → moves ≡ record (s.moves) { frozen = map.retain_keys s.moves.frozen (elsewhere app) } → hints ≡ all_hinted app s.spec.no 0 net.actors s.hints → record s { known = known; live = live; moves = moves; hints = hints } ≡ deployed_state s name net app

@@ -37,19 +37,19 @@ module _ (m : map.FinMap actor_cmp LiveState) (a : ActorId) (l : LiveState) wher
         | inr s ↦ get_inserted m a l b ∙ ap (λ (t : Bool). cond t (Some l) (map.get m b)) s.0
       ]
 
-module _ (app : AppId) (joins : List Connection) (home : ℕ) where
+module _ (app : AppId) (connections : List Connection) (home : ℕ) where
   abbrev numbered : ℕ → ActorId
   numbered k = record { app = app; actor = k }
 
   abbrev settled_at : ℕ → map.FinMap actor_cmp LiveState → ℕ → ActorSpec → map.FinMap actor_cmp LiveState
-  settled_at node live k spec = settled_if (node == home) live (new_live app joins k spec 0)
+  settled_at node live k spec = settled_if (node == home) live (new_live app connections k spec 0)
 
-  beside_if : (b : Bool) (live : map.FinMap actor_cmp LiveState) (k : ℕ) (spec : ActorSpec) (a : ActorId) → ((a ≡ numbered k) → ⊥) → map.get (settled_if b live (new_live app joins k spec 0)) a ≡ map.get live a
+  beside_if : (b : Bool) (live : map.FinMap actor_cmp LiveState) (k : ℕ) (spec : ActorSpec) (a : ActorId) → ((a ≡ numbered k) → ⊥) → map.get (settled_if b live (new_live app connections k spec 0)) a ≡ map.get live a
   beside_if false live k spec a apart = refl
-  beside_if true live k spec a apart = put_beside live (numbered k) (new_live app joins k spec 0) a apart
+  beside_if true live k spec a apart = put_beside live (numbered k) (new_live app connections k spec 0) a apart
 
   -- the actors before the first of these are left as they were
-  before : (specs : List ActorSpec) (at : List ℕ) (first k : ℕ) (live : map.FinMap actor_cmp LiveState) → k < first → map.get (all_placed app joins home first specs at live) (numbered k) ≡ map.get live (numbered k)
+  before : (specs : List ActorSpec) (at : List ℕ) (first k : ℕ) (live : map.FinMap actor_cmp LiveState) → k < first → map.get (all_placed app connections home first specs at live) (numbered k) ≡ map.get live (numbered k)
   before [] at first k live low = refl
   before (spec ∷ specs) [] first k live low = refl
   before (spec ∷ specs) (node ∷ at) first k live low =
@@ -58,15 +58,15 @@ module _ (app : AppId) (joins : List Connection) (home : ℕ) where
       before specs at (suc first) k (settled_at node live first spec) (omega (arith, low))
       ∙ beside_if (node == home) live first spec (numbered k) apart
 
-  here_if : (b : Bool) (live : map.FinMap actor_cmp LiveState) (k : ℕ) (spec : ActorSpec) → b ≡ true → map.get (settled_if b live (new_live app joins k spec 0)) (numbered k) ≡ Some (new_live app joins k spec 0)
-  here_if true live k spec is = put_there live (numbered k) (new_live app joins k spec 0)
+  here_if : (b : Bool) (live : map.FinMap actor_cmp LiveState) (k : ℕ) (spec : ActorSpec) → b ≡ true → map.get (settled_if b live (new_live app connections k spec 0)) (numbered k) ≡ Some (new_live app connections k spec 0)
+  here_if true live k spec is = put_there live (numbered k) (new_live app connections k spec 0)
   here_if false live k spec is = absurd (cc)
 
   is_own : (node : ℕ) → node ≡ home → (node == home) ≡ true
   is_own node is =
       elim (eqb_tells node home) [ inl s ↦ s.0 | inr s ↦ absurd (s.1 is) ]
 
-  placed_there : (specs : List ActorSpec) (at : List ℕ) (first place : ℕ) (spec : ActorSpec) (live : map.FinMap actor_cmp LiveState) → slice_get at place ≡ Some home → slice_get specs place ≡ Some spec → map.get (all_placed app joins home first specs at live) (numbered (first + place)) ≡ Some (new_live app joins (first + place) spec 0)
+  placed_there : (specs : List ActorSpec) (at : List ℕ) (first place : ℕ) (spec : ActorSpec) (live : map.FinMap actor_cmp LiveState) → slice_get at place ≡ Some home → slice_get specs place ≡ Some spec → map.get (all_placed app connections home first specs at live) (numbered (first + place)) ≡ Some (new_live app connections (first + place) spec 0)
   placed_there [] at first place spec live node is = absurd (cc)
   placed_there (x ∷ specs) [] first place spec live node is = absurd (cc)
   placed_there (x ∷ specs) (n ∷ at) first zero spec live node is =
@@ -75,15 +75,15 @@ module _ (app : AppId) (joins : List Connection) (home : ℕ) where
       let number : first ≡ first + 0 = omega arith in
       let later = before specs at (suc first) first (settled_at n live first x) (omega arith) in
       let here = here_if (n == home) live first x (is_own n own) in
-      subst (λ (k : ℕ). map.get (all_placed app joins home first (x ∷ specs) (n ∷ at) live) (numbered k) ≡ Some (new_live app joins k spec 0)) number (later ∙ here ∙ ap (λ (y : ActorSpec). Some (new_live app joins first y 0)) same)
+      subst (λ (k : ℕ). map.get (all_placed app connections home first (x ∷ specs) (n ∷ at) live) (numbered k) ≡ Some (new_live app connections k spec 0)) number (later ∙ here ∙ ap (λ (y : ActorSpec). Some (new_live app connections first y 0)) same)
   placed_there (x ∷ specs) (n ∷ at) first (suc place) spec live node is =
       let number : suc first + place ≡ first + suc place = omega arith in
-      subst (λ (k : ℕ). map.get (all_placed app joins home first (x ∷ specs) (n ∷ at) live) (numbered k) ≡ Some (new_live app joins k spec 0)) number (placed_there specs at (suc first) place spec (settled_at n live first x) node is)
+      subst (λ (k : ℕ). map.get (all_placed app connections home first (x ∷ specs) (n ∷ at) live) (numbered k) ≡ Some (new_live app connections k spec 0)) number (placed_there specs at (suc first) place spec (settled_at n live first x) node is)
 
-  placed_first : (specs : List ActorSpec) (at : List ℕ) (actor : ℕ) (spec : ActorSpec) → slice_get at actor ≡ Some home → slice_get specs actor ≡ Some spec → map.get (all_placed app joins home 0 specs at map.empty) (numbered actor) ≡ Some (new_live app joins actor spec 0)
+  placed_first : (specs : List ActorSpec) (at : List ℕ) (actor : ℕ) (spec : ActorSpec) → slice_get at actor ≡ Some home → slice_get specs actor ≡ Some spec → map.get (all_placed app connections home 0 specs at map.empty) (numbered actor) ≡ Some (new_live app connections actor spec 0)
   placed_first specs at actor spec node is =
       let number : 0 + actor ≡ actor = omega arith in
-      subst (λ (k : ℕ). map.get (all_placed app joins home 0 specs at map.empty) (numbered k) ≡ Some (new_live app joins k spec 0)) number (placed_there specs at 0 actor spec map.empty node is)
+      subst (λ (k : ℕ). map.get (all_placed app connections home 0 specs at map.empty) (numbered k) ≡ Some (new_live app connections k spec 0)) number (placed_there specs at 0 actor spec map.empty node is)
 
   -- an actor whose place is this node, for those from number `first` on
   record IsPlacedHere (at : List ℕ) (first : ℕ) (a : ActorId) : Type 0 where
@@ -103,7 +103,7 @@ module _ (app : AppId) (joins : List Connection) (home : ℕ) where
 
   settled_here : (node : ℕ) (at : List ℕ) (first : ℕ) (a : ActorId) (live : map.FinMap actor_cmp LiveState) (spec : ActorSpec) (x : LiveState) → map.get (settled_at node live first spec) a ≡ Some x → (map.get live a ≡ Some x) ⊎ IsPlacedHere (node ∷ at) first a
   settled_here node at first a live spec x is =
-      let l = new_live app joins first spec 0 in
+      let l = new_live app connections first spec 0 in
       elim (eqb_tells node home) [
         | inl s ↦ elim (put_or_kept live (numbered first) l a x (sym (ap (λ b. map.get (settled_if b live l) a) s.0) ∙ is)) [
           | inl e ↦ inr (first_place node at first a s.1 e)
@@ -113,7 +113,7 @@ module _ (app : AppId) (joins : List Connection) (home : ℕ) where
       ]
 
   -- who lives there lived there before, or has its place there
-  placed_only : (specs : List ActorSpec) (at : List ℕ) (first : ℕ) (a : ActorId) (live : map.FinMap actor_cmp LiveState) (x : LiveState) → map.get (all_placed app joins home first specs at live) a ≡ Some x → (map.get live a ≡ Some x) ⊎ IsPlacedHere at first a
+  placed_only : (specs : List ActorSpec) (at : List ℕ) (first : ℕ) (a : ActorId) (live : map.FinMap actor_cmp LiveState) (x : LiveState) → map.get (all_placed app connections home first specs at live) a ≡ Some x → (map.get live a ≡ Some x) ⊎ IsPlacedHere at first a
   placed_only [] at first a live x is = inl is
   placed_only (spec ∷ specs) [] first a live x is = inl is
   placed_only (spec ∷ specs) (node ∷ at) first a live x is =
@@ -122,7 +122,7 @@ module _ (app : AppId) (joins : List Connection) (home : ℕ) where
         | inr p ↦ inr (later_place node at first a p)
       ]
 
-  placed_alone : (specs : List ActorSpec) (at : List ℕ) (a : ActorId) (x : LiveState) → map.get (all_placed app joins home 0 specs at map.empty) a ≡ Some x → (a.app ≡ app) × (slice_get at a.actor ≡ Some home)
+  placed_alone : (specs : List ActorSpec) (at : List ℕ) (a : ActorId) (x : LiveState) → map.get (all_placed app connections home 0 specs at map.empty) a ≡ Some x → (a.app ≡ app) × (slice_get at a.actor ≡ Some home)
   placed_alone specs at a x is =
       elim (placed_only specs at 0 a map.empty x is) [
         | inl e ↦ let none : None ≡ Some x = sym (map.get-empty actor_cmp a) ∙ e in absurd (cc)

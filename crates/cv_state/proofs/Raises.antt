@@ -8,7 +8,7 @@ use Rattle.cv_table.specs.Order.{actor_cmp}
 use Rattle.cv_protocol.specs.Actors.{LiveState, StateView}
 use Rattle.cv_protocol.specs.Travel.{restore}
 use Rattle.cv_protocol.specs.NodeState.{Known, Moves, NodeState, is_later, raise, released, with_hint, with_release}
-use Rattle.cv_protocol.specs.Deliveries.{accepted_state, all_raised, arrived, outs_joined, with_verdict}
+use Rattle.cv_protocol.specs.Deliveries.{accepted_state, all_raised, arrived, outs_noted, with_verdict}
 use Rattle.cv_state.specs.Arrivals.{Places, all_hinted, all_released, hinted, hinted_if, places_of, with_record}
 
 -- a state with these places and moves
@@ -33,7 +33,7 @@ many_raised (h ∷ hs) s =
 -- an actor that comes to live at a node
 abbrev pub joined : NodeState → ActorId → StateView → NodeState
 joined s a state = record s {
-  known = record (s.known) { producers = outs_joined a state.actor.outs s.known.producers };
+  known = record (s.known) { producers = outs_noted a state.actor.outs s.known.producers };
 }
 
 abbrev pub own_hint : NodeState → ActorId → ℕ → Hint
@@ -47,8 +47,8 @@ arrival s a attempt state =
 
 -- the state once an actor came to live here, as the code made its tables
 pub arrives : (s : NodeState) (a : ActorId) (attempt : ℕ) (state : StateView) (known : Known) (m : Moves) (p q : Places) (l : map.FinMap actor_cmp LiveState) → known ≡ (joined s a state).known → m ≡ all_released state.hints (released (with_record s.moves a attempt verdict.Accepted) a attempt) → l ≡ map.insert s.live a (restore state attempt s.now) → p ≡ hinted (places_of s.hints l) (own_hint s a attempt) → q ≡ all_hinted state.hints p → with_places (record s { known = known }) q m ≡ accepted_state s a attempt state
-arrives s a attempt state known m p q l joins moves lives own others =
-    ap (λ (k : Known). with_places (record s { known = k }) q m) joins
+arrives s a attempt state known m p q l connections moves lives own others =
+    ap (λ (k : Known). with_places (record s { known = k }) q m) connections
     ∙ ap (λ (n : Moves). with_places (joined s a state) q n) moves
     ∙ ap (λ (r : Places). with_places (joined s a state) r (all_released state.hints (released (with_record s.moves a attempt verdict.Accepted) a attempt))) (others ∙ ap (all_hinted state.hints) (own ∙ ap (λ (m : map.FinMap actor_cmp LiveState). hinted (places_of s.hints m) (own_hint s a attempt)) lives))
     ∙ sym (arrival s a attempt state)

@@ -11,7 +11,7 @@ use Rattle.cv_protocol.specs.declared.moving.Application.TheVariants as known
 use Rattle.cv_protocol.specs.Actors.{LiveState}
 use Rattle.cv_protocol.specs.NodeState.{Known}
 use Rattle.cv_protocol.specs.Poll.{limit}
-use Rattle.cv_protocol.specs.Rows.{all_joined}
+use Rattle.cv_protocol.specs.Rows.{producers_noted}
 use Rattle.cv_protocol.specs.Travel.{first_due, new_live}
 
 -- whether the first moments of these actors are below the limit
@@ -20,9 +20,9 @@ are_due now actors = list_all (λ (spec : ActorSpec). nat_lt (first_due spec now
 
 -- the actors of a network from number `actor` on, at the start
 abbrev pub new_lives : AppId → List Connection → ℕ → ℕ → List ActorSpec → List LiveState
-new_lives app joins now actor [] = []
-new_lives app joins now actor (spec ∷ specs) =
-    new_live app joins actor spec now ∷ new_lives app joins now (suc actor) specs
+new_lives app connections now actor [] = []
+new_lives app connections now actor (spec ∷ specs) =
+    new_live app connections actor spec now ∷ new_lives app connections now (suc actor) specs
 
 -- these actors live here, the first one as this number of the application
 abbrev pub all_settled : AppId → ℕ → List LiveState → map.FinMap actor_cmp LiveState → map.FinMap actor_cmp LiveState
@@ -34,7 +34,7 @@ all_settled app actor (l ∷ ls) live =
 abbrev pub learned : Known → AppId → List ℕ → Net → Known
 learned k app name net = record k {
   apps = map.insert k.apps app (known.Known name net);
-  producers = all_joined app 0 net.connections k.producers;
+  producers = producers_noted app 0 net.connections k.producers;
 }
 
 abbrev pub deployed_known : Known → AppId → List ℕ → Net → Known

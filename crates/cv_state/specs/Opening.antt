@@ -13,7 +13,7 @@ use Rattle.cv_protocol.specs.declared.moving.Application.TheVariants as known
 use Rattle.cv_protocol.specs.declared.moving.Location.{Location}
 use Rattle.cv_protocol.specs.Actors.{LiveState}
 use Rattle.cv_protocol.specs.NodeState.{Known, NodeState, opening}
-use Rattle.cv_protocol.specs.Rows.{all_joined}
+use Rattle.cv_protocol.specs.Rows.{producers_noted}
 use Rattle.cv_protocol.specs.Travel.{new_live}
 
 -- 1. The state. `at` has the node of each actor, in the order of the network
@@ -28,10 +28,10 @@ settled_if true live l = map.insert live l.actor.id l
 
 -- the actors from number `actor` on that this node is the place of live here, at their start
 abbrev pub all_placed : AppId → List Connection → ℕ → ℕ → List ActorSpec → List ℕ → map.FinMap actor_cmp LiveState → map.FinMap actor_cmp LiveState
-all_placed app joins home actor [] at live = live
-all_placed app joins home actor (spec ∷ specs) [] live = live
-all_placed app joins home actor (spec ∷ specs) (node ∷ at) live =
-    all_placed app joins home (suc actor) specs at (settled_if (node == home) live (new_live app joins actor spec 0))
+all_placed app connections home actor [] at live = live
+all_placed app connections home actor (spec ∷ specs) [] live = live
+all_placed app connections home actor (spec ∷ specs) (node ∷ at) live =
+    all_placed app connections home (suc actor) specs at (settled_if (node == home) live (new_live app connections actor spec 0))
 
 -- each actor is known to live at its place, by the attempt 0
 abbrev pub all_located : AppId → ℕ → List ℕ → map.FinMap actor_cmp Location → map.FinMap actor_cmp Location
@@ -48,7 +48,7 @@ opened_known home attrs app net = record {
   nodes = map.insert map.empty home attrs;
   apps = map.insert map.empty app (known.Known opened_name net);
   deployed = own_count app home;
-  producers = all_joined app 0 net.connections map.empty;
+  producers = producers_noted app 0 net.connections map.empty;
 }
 
 abbrev pub opened : NodeSpec → AppId → Net → List ℕ → NodeState

@@ -97,7 +97,7 @@ impl State {
         ensures { result ≡ cause_of self.now (Event.Peek actor port) }
     {
         let Some(live) = self.live.get(actor) else {
-            return Some(self.missing(actor));
+            return Some(self.absence(actor));
         };
         let Some(_count) = read_of(live.outlook(self.moment), port) else {
             return Some(StepRefusal::NotEnabled);
@@ -110,7 +110,7 @@ impl State {
         ensures { result ≡ cause_of self.now (Event.Fire actor action) }
     {
         let Some(live) = self.live.get(actor) else {
-            return Some(self.missing(actor));
+            return Some(self.absence(actor));
         };
         if !is_fire(live.outlook(self.moment), action) {
             return Some(StepRefusal::NotEnabled);
@@ -185,7 +185,7 @@ impl State {
         ensures { result ≡ cause_of self.now (Event.Freeze actor to) }
     {
         let Some(live) = self.live(actor) else {
-            return Some(self.missing(actor));
+            return Some(self.absence(actor));
         };
         if !self.is_other_known(to) {
             return Some(StepRefusal::NoNode);

@@ -41,13 +41,13 @@ fn new_lives(
     alloc: Global,
     app: AppId,
     actors: &[ActorSpec],
-    joins: &[Connection],
+    connections: &[Connection],
     now: u64,
 ) -> Result<VecDeque<Live>, OutOfMemory>
     requires few_actors { length actors.now ≤ 256 }
-    requires few_connections { length joins.now ≤ 4096 }
+    requires few_connections { length connections.now ≤ 4096 }
     requires due { are_due now actors.now ≡ true }
-    ensures { IfOk result (λ lives. lives.items ≡ new_lives app joins.now now 0 actors.now) }
+    ensures { IfOk result (λ lives. lives.items ≡ new_lives app connections.now now 0 actors.now) }
 {
     let mut lives = VecDeque::with_capacity(alloc, actors.len())?;
     for (place, actor) in actors.iter().enumerate() {
@@ -55,7 +55,7 @@ fn new_lives(
             app,
             actor: place as u16,
         };
-        lives.push_back(Live::start(alloc, id, actor, joins, now)?)?;
+        lives.push_back(Live::start(alloc, id, actor, connections, now)?)?;
     }
     Ok(lives)
 }

@@ -3,12 +3,12 @@
 ghost use Rattle.std.specs.Prelude.{◌≡◌, ◌<◌, ◌≤◌, length, slice_get, OnOk, OnErr, IfOk, is_some};
 ghost use Rattle.std.specs.Option.{option_copied};
 ghost use Rattle.std.specs.FinMap as map;
-ghost use Rattle.cv_protocol.specs.Deliveries.{outs_joined};
-ghost use Rattle.cv_protocol.specs.Rows.{all_joined};
+ghost use Rattle.cv_protocol.specs.Deliveries.{outs_noted};
+ghost use Rattle.cv_protocol.specs.Rows.{producers_noted};
 ghost use Rattle.cv_state.specs.Deploying.{deployed_known, learned};
 ghost use Rattle.cv_state.specs.Opening.{opened_known, own_count};
 
-use crate::joining::{count_readers, join_outs};
+use crate::noting::{count_readers, note_outs};
 use cv_kinds::{Connection, Network};
 use cv_protocol::Application;
 use cv_queue::OutPort;
@@ -40,19 +40,19 @@ impl Model for Known {
 }
 
 /// The producers of the application's connections are known. There is room for them.
-fn join_all(producers: &mut ConnTable<ActorId>, app: AppId, joins: &[Connection])
-    requires few { length joins.now ≤ 4096 }
-    requires room { length joins.now ≤ producers.old.spare }
-    ensures { producers.new.map ≡ all_joined app 0 joins.now producers.old.map }
+fn note_producers(producers: &mut ConnTable<ActorId>, app: AppId, connections: &[Connection])
+    requires few { length connections.now ≤ 4096 }
+    requires room { length connections.now ≤ producers.old.spare }
+    ensures { producers.new.map ≡ producers_noted app 0 connections.now producers.old.map }
 {
-    for (place, join) in joins.iter().enumerate() {
+    for (place, connection) in connections.iter().enumerate() {
         let conn = ConnId {
             app,
             place: place as u16,
         };
         let producer = ActorId {
             app,
-            actor: join.from,
+            actor: connection.from,
         };
         let Ok(_old) = producers.insert(conn, producer) else {
             unreachable!()
@@ -147,12 +147,12 @@ impl Known {
         ensures ok { OnOk result (self.new ≡ learned self.old app name.now net.now) }
         ensures err { OnErr result (self.new ≡ self.old) }
     {
-        let joins = net.connections();
+        let connections = net.connections();
         let name = name.copy(alloc)?;
         let net = Boxed::new(alloc, net.copy(alloc)?)?;
-        self.producers.reserve(joins.len())?;
+        self.producers.reserve(connections.len())?;
         self.apps.insert(app, Application::Known { name, net })?;
-        join_all(&mut self.producers, app, joins);
+        note_producers(&mut self.producers, app, connections);
         Ok(())
     }
 
@@ -174,7 +174,7 @@ impl Known {
     }
 
     /// A node that knows itself, with these attributes, and the application, which the node that it names counts as deployed.
-    pub fn opened(
+    pub fn open(
         alloc: Global,
         no: u16,
         attrs: Attrs,
@@ -201,15 +201,15 @@ impl Known {
     }
 
     /// The connections of these outports are known to be the actor's. Want of memory changes nothing.
-    pub fn join(&mut self, actor: ActorId, outs: &[OutPort]) -> Result<(), OutOfMemory>
-        ensures ok { OnOk result (self.new ≡ record self.old { producers = outs_joined actor outs.now self.old.producers }) }
+    pub fn note_outs(&mut self, actor: ActorId, outs: &[OutPort]) -> Result<(), OutOfMemory>
+        ensures ok { OnOk result (self.new ≡ record self.old { producers = outs_noted actor outs.now self.old.producers }) }
         ensures err { OnErr result (self.new ≡ self.old) }
     {
         let Some(readers) = count_readers(outs) else {
             return Err(AllocError);
         };
         self.producers.reserve(readers)?;
-        join_outs(&mut self.producers, actor, outs);
+        note_outs(&mut self.producers, actor, outs);
         Ok(())
     }
 

@@ -75,7 +75,7 @@ impl State {
     }
 
     /// What travels of the live actor; nothing changes here.
-    fn captured(
+    fn capture(
         &self,
         alloc: Global,
         actor: ActorId,
@@ -105,7 +105,7 @@ impl State {
         ensures err { OnErr result (self.new ≡ self.old) }
     {
         let Some(live) = self.live(actor) else {
-            return Err(self.missing(actor));
+            return Err(self.absence(actor));
         };
         if !self.is_other_known(to) {
             return Err(StepRefusal::NoNode);
@@ -118,7 +118,7 @@ impl State {
             return Err(StepRefusal::StampSpent);
         }
         let attempt = before + 1;
-        let kept = self.captured(alloc, actor, live)?;
+        let kept = self.capture(alloc, actor, live)?;
         let state = Boxed::new(alloc, kept.get().copy(alloc)?)?;
         let copy = Frozen {
             state: kept,

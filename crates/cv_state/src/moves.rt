@@ -4,7 +4,7 @@ ghost use Rattle.std.specs.Prelude.{◌≡◌, is_some, max, slice_get, OnOk, On
 ghost use Rattle.std.specs.Option.{option_copied, option_map};
 ghost use Rattle.std.specs.FinMap as map;
 ghost use Rattle.cv_protocol.specs.NodeState.{frozen_attempt, judged_attempt, released};
-ghost use Rattle.cv_protocol.specs.Deliveries.{outs_joined, verdict_of};
+ghost use Rattle.cv_protocol.specs.Deliveries.{outs_noted, verdict_of};
 ghost use Rattle.cv_protocol.specs.Rows.{elsewhere};
 ghost use Rattle.cv_state.specs.Arrivals.{all_released, with_record};
 ghost use Rattle.cv_state.specs.Leaving.{frozen_place};
@@ -165,13 +165,13 @@ impl Moves {
         state: &ActorState,
     ) -> Result<(), OutOfMemory>
         ensures moves { OnOk result (self.new ≡ all_released state.now.hints (released (with_record self.old actor attempt Verdict.Accepted) actor attempt)) }
-        ensures known { OnOk result (known.new ≡ record known.old { producers = outs_joined actor state.now.actor.outs known.old.producers }) }
+        ensures known { OnOk result (known.new ≡ record known.old { producers = outs_noted actor state.now.actor.outs known.old.producers }) }
         ensures err { OnErr result (self.new ≡ self.old) }
         ensures unknown { OnErr result (known.new ≡ known.old) }
     {
         let hints = state.hints().as_slice();
         self.judged.reserve(hints.len() + 2)?;
-        known.join(actor, state.outs())?;
+        known.note_outs(actor, state.outs())?;
         let record = Judged {
             attempt,
             verdict: Some(Verdict::Accepted),

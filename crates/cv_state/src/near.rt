@@ -77,7 +77,7 @@ impl State {
         ensures err { OnErr result (self.new ≡ self.old) }
     {
         let Some(live) = self.live.get(actor) else {
-            return Err(self.missing(actor));
+            return Err(self.absence(actor));
         };
         let Some(count) = read_of(live.outlook(self.moment), port) else {
             return Err(StepRefusal::NotEnabled);
@@ -101,7 +101,7 @@ impl State {
         ensures err { OnErr result (self.new ≡ self.old) }
     {
         let Some(live) = self.live.get(actor) else {
-            return Err(self.missing(actor));
+            return Err(self.absence(actor));
         };
         if !is_fire(live.outlook(self.moment), action) {
             return Err(StepRefusal::NotEnabled);

@@ -80,7 +80,7 @@ impl State {
             return Err(AllocError);
         }
         let attrs = spec.attrs.copy(alloc)?;
-        let known = Known::opened(alloc, spec.no, attrs, app, net)?;
+        let known = Known::open(alloc, spec.no, attrs, app, net)?;
         let live = start_placed(alloc, app, net, at, spec.no)?;
         let hints = hint_homes(alloc, app, at)?;
         Ok(State {

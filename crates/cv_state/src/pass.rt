@@ -109,12 +109,17 @@ impl State {
         if self.live.get(consumer).is_some() {
             StepRefusal::NotEnabled
         } else {
-            self.missing(consumer)
+            self.absence(consumer)
         }
     }
 
     /// What passes on the connection.
-    fn passing(&self, alloc: Global, conn: ConnId, way: Way) -> Result<Option<Passing>, OutOfMemory>
+    fn next_passing(
+        &self,
+        alloc: Global,
+        conn: ConnId,
+        way: Way,
+    ) -> Result<Option<Passing>, OutOfMemory>
         requires { Some way ≡ option_map way_in (way_of self.now conn) }
         ensures { IfOk result (λ passing. passing ≡ passing_on (way_of self.now conn)) }
     {
@@ -199,7 +204,7 @@ impl State {
         let Some(way) = self.way(conn) else {
             return Err(self.no_way(conn));
         };
-        let Some(passing) = self.passing(alloc, conn, way)? else {
+        let Some(passing) = self.next_passing(alloc, conn, way)? else {
             return Err(StepRefusal::NotEnabled);
         };
         if passing.received >= LIMIT {

@@ -120,7 +120,7 @@ impl State {
     {
         match self.live.get(actor) {
             Some(live) => Ok(live.outlook(self.moment)),
-            None => Err(self.missing(actor)),
+            None => Err(self.absence(actor)),
         }
     }
 
@@ -134,7 +134,7 @@ impl State {
 
 impl State {
     /// Why an actor is not found that does not live here.
-    pub(crate) fn missing(&self, actor: ActorId) -> StepRefusal
+    pub(crate) fn absence(&self, actor: ActorId) -> StepRefusal
         ensures { result ≡ (if is_some (map.get self.now.moves.frozen actor) then refusal.Moving else refusal.NotHere) }
     {
         if self.moves.is_frozen(actor) {

@@ -33,7 +33,7 @@ pub(crate) fn fits_offer(port: &InPort, n: u64) -> bool
 }
 
 /// What the producer is told of its token.
-fn told(conn: ConnId, producer: ActorId, answer: Answer) -> Body
+fn answer_body(conn: ConnId, producer: ActorId, answer: Answer) -> Body
     ensures { result ≡ told conn producer answer }
 {
     match answer {
@@ -140,6 +140,6 @@ impl State {
             unreachable!()
         };
         let answer = on_token(port, n, token);
-        Ok(self.one(stamp, sender, told(fed, producer, answer)))
+        Ok(self.one(stamp, sender, answer_body(fed, producer, answer)))
     }
 }

@@ -1,12 +1,12 @@
 //! Reading a token from JSON.
 
-ghost use Rattle.std.specs.Prelude.{◌≡◌, ◌≤◌, Ok, Some, IfOk, IfSome};
+ghost use Rattle.std.specs.Prelude.{◌≡◌, ◌≤◌, nat_le, if◌then◌else◌, true, Ok, Err, Some, IfOk, IfSome};
 ghost use Rattle.serde_json.specs.Data.{depth as data_depth};
 ghost use Rattle.serde_json.specs.View.{view};
 ghost use Rattle.cv_token.specs.declared.token.Token.{Token};
-ghost use Rattle.cv_token.specs.Bounds.{Fits};
-ghost use Rattle.cv_token.specs.Reading.{Answers, json_of, reading, tree_of};
-ghost use Rattle.cv_token.specs.Shape.{depth};
+ghost use Rattle.cv_token.specs.Bounds.{Fits, most_depth};
+ghost use Rattle.cv_token.specs.Reading.{Answers, json_of, reading, short_token, tree_of};
+ghost use Rattle.cv_token.specs.Shape.{depth, is_token};
 ghost use Rattle.cv_token.specs.Spelling.{spelling};
 ghost use Rattle.cv_token.specs.Spells.{IsTree, Spells};
 ghost use Rattle.cv_token.specs.Taken.{Parses, Reads};
@@ -33,19 +33,34 @@ fn parse(alloc: Global, bytes: &[u8]) -> Result<Value, TokenFault>
     }
 }
 
+/// Refuses what nests over 16 deep. No memory is taken, so want of it is no answer.
+fn check_depth(value: &Value) -> Result<(), TokenFault>
+    ensures { result ≡ (if nat_le (data_depth (view value.now)) most_depth then Ok tt else Err TokenFault.TooDeep) }
+{
+    if !value_within(value, MOST_DEPTH) {
+        return Err(TokenFault::TooDeep);
+    }
+    Ok(())
+}
+
+/// Refuses what has over 1,024 bytes as text. No memory is taken, so want of it is no answer.
+fn check_size(token: Token) -> Result<Token, TokenFault>
+    ensures exact { result ≡ short_token token }
+    ensures known { IfOk result (λ _. is_token token ≡ true) }
+{
+    if !is_short(&token) {
+        return Err(TokenFault::TooLarge);
+    }
+    Ok(token)
+}
+
 fn read_within(alloc: Global, bytes: &[u8]) -> Result<Token, TokenFault>
     ensures exact { Answers result (reading bytes.now) }
     ensures within { IfOk result Fits }
 {
     let value = parse(alloc, bytes)?;
-    if !value_within(&value, MOST_DEPTH) {
-        return Err(TokenFault::TooDeep);
-    }
-    let token = token_from(alloc, &value)?;
-    if !is_short(&token) {
-        return Err(TokenFault::TooLarge);
-    }
-    Ok(token)
+    check_depth(&value)?;
+    check_size(token_from(alloc, &value)?)
 }
 
 /// The token of a JSON text. Of equal keys the last counts. Of several faults the first of

@@ -169,7 +169,7 @@ fn run<R: Threads + Sync, G: Gate>(
     ensures { IfOk result (λ answer. (stop : RunEnd) × (answer.end ≡ end_at stop) × IsRightRun words.now net stop answer.merged (string_bytes answer.text)) }
 {
     let (stop, merged) = run_on_nodes(rt, alloc, net.copy(alloc)?, words, gate)?;
-    let text = printed(alloc, &net, merged.entries.as_slice(), stop)?;
+    let text = print_run(alloc, &net, merged.entries.as_slice(), stop)?;
     Ok(Answer {
         end: End::at(stop),
         merged,
@@ -178,7 +178,7 @@ fn run<R: Threads + Sync, G: Gate>(
 }
 
 /// The text of a run: the lines of its prints, the number of its firings, and its end.
-fn printed(
+fn print_run(
     alloc: Global,
     net: &Network,
     steps: &[Step],

@@ -63,7 +63,7 @@ pub fn read_command(words: &[String]) -> Option<Command>
         let firings = read_firings_option(rest)?;
         Some(Command::Script(Task::Solo { firings }))
     } else if command.as_str() == "compile" {
-        compiling(rest)
+        read_compile(rest)
     } else if command.as_str() == "gen" {
         let number = read_chains_item(rest)?;
         Some(Command::Gen { number })
@@ -73,7 +73,7 @@ pub fn read_command(words: &[String]) -> Option<Command>
 }
 
 /// To print the network, where no words stand behind `compile`.
-fn compiling(words: &[String]) -> Option<Command>
+fn read_compile(words: &[String]) -> Option<Command>
     ensures { result ≡ compiling (map string_bytes words.now) }
 {
     match words {

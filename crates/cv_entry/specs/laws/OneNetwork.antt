@@ -7,8 +7,8 @@ use Rattle.cv_kinds.specs.declared.network.Connection.{Connection}
 use Rattle.cv_kinds.specs.Net.{Net}
 use Rattle.cv_kinds.specs.Table.{line_of}
 use Rattle.cv_kinds.specs.WellFormed.{IsSpec, IsWellFormed}
-use Rattle.cv_kinds.specs.Wired.{HasInport, HasOutport, Joins}
-use Rattle.cv_kinds.proofs.Wires.{joins_of}
+use Rattle.cv_kinds.specs.Wired.{HasInport, HasOutport, HasPorts}
+use Rattle.cv_kinds.proofs.Wires.{all_have_ports}
 use Rattle.cv_network.specs.Written.{actor_token, connection_token, inport_of, network_token, outport_of, port_token}
 use Rattle.cv_network.proofs.Ports.{inport_known, inport_text, outport_known, outport_text}
 use Rattle.cv_frame.specs.laws.Arguments.{one_spec}
@@ -42,8 +42,8 @@ one_inport (Some a) n m j k e =
     let named = inport_text a.kind n (port_token (line_of a.kind).inports n) j refl in
     same_port n m (sym (inport_known a.kind n named.0 _ named.1 refl) ∙ inport_known a.kind m named.0 _ named.1 e)
 
-one_join : (actors : List ActorSpec) (a b : Connection) → Joins actors a → Joins actors b → connection_token actors a ≡ connection_token actors b → a ≡ b
-one_join actors a b j k e =
+one_connection : (actors : List ActorSpec) (a b : Connection) → HasPorts actors a → HasPorts actors b → connection_token actors a ≡ connection_token actors b → a ≡ b
+one_connection actors a b j k e =
     let from : a.from ≡ b.from = one_place a.from b.from (both_at _ _ 0 e) in
     let to : a.to ≡ b.to = one_place a.to b.to (both_at _ _ 2 e) in
     let producer : HasOutport (slice_get actors a.from) b.out = subst (λ (p : ℕ). HasOutport (slice_get actors p) b.out) (sym from) k.producer in
@@ -56,8 +56,8 @@ pub one_network : (n m : Net) → IsWellFormed n → IsWellFormed m → network_
 one_network n m j k e =
     let actors : n.actors ≡ m.actors = same_images IsSpec actor_token one_actor n.actors m.actors j.specs k.specs (same_list (tree.List (map actor_token n.actors)) _ _ refl (value_at (network_token n) _ _ 0 refl e)) in
     let second : tree.List (map (connection_token n.actors) n.connections) ≡ tree.List (map (connection_token m.actors) m.connections) = value_at (network_token n) _ _ 1 refl e in
-    let joins : All (Joins n.actors) m.connections = subst (λ (xs : List ActorSpec). All (Joins xs) m.connections) (sym actors) (joins_of m.actors m.connections k.wired) in
+    let connections : All (HasPorts n.actors) m.connections = subst (λ (xs : List ActorSpec). All (HasPorts xs) m.connections) (sym actors) (all_have_ports m.actors m.connections k.wired) in
     let connections : n.connections ≡ m.connections =
-    same_images (Joins n.actors) (connection_token n.actors) (one_join n.actors) n.connections m.connections (joins_of n.actors n.connections j.wired) joins
+    same_images (HasPorts n.actors) (connection_token n.actors) (one_connection n.actors) n.connections m.connections (all_have_ports n.actors n.connections j.wired) connections
     (same_list (tree.List (map (connection_token n.actors) n.connections)) _ _ refl (second ∙ ap (λ (xs : List ActorSpec). tree.List (map (connection_token xs) m.connections)) (sym actors))) in
     λ i. record { actors = actors i; connections = connections i }

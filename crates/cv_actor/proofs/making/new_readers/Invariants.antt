@@ -5,5 +5,5 @@ use Rattle.cv_actor.proofs.making.new_readers.Given as goal
 abbrev pub invariant-loop-place : goal.invariant-loop-place
 invariant-loop-place l = record {
   few : length l.readers ≤ l.place;
-  whole : l.readers ++ readers_of l.id.app l.place (drop l.place l.joins) l.id.actor l.port ≡ readers_of l.id.app 0 l.joins l.id.actor l.port;
+  whole : l.readers ++ readers_of l.id.app l.place (drop l.place l.connections) l.id.actor l.port ≡ readers_of l.id.app 0 l.connections l.id.actor l.port;
 }

@@ -49,8 +49,8 @@ connections_of-requires-clause-supplied c =
     let begun : c.in_ok-ways.ways.items ≡ map (way_of (length c.args.parts.now.actors) c.in_ok-joined.joined.feeders) c.in_ok-joined.joined.wires.items =
     c.in_ok-ways.ensures ∙ ap (λ (n : ℕ). map (way_of n feeders) c.as_slice-wires.result.now) c.len.ensures ∙ ap (λ (ws : List Wire). map (way_of actors feeders) ws) c.as_slice-wires.ensures.value in
     let joined : IsJoined c.args.parts.now c.in_ok-joined.joined.wires.items c.in_ok-joined.joined.feeders = record { apart = places_apart parts c.requires.distinct; wires_are = c.in_ok-joined.ensures.wires; indexed = c.in_ok-joined.ensures.feeders } in
-    let ends : AreEnded (map (way_of (length c.args.parts.now.actors) c.in_ok-joined.joined.feeders) c.in_ok-joined.joined.wires.items) c.followed-ends.result.items = subst (λ (ws : List Way). AreEnded ws c.followed-ends.result.items) begun c.followed-ends.ensures in
-    let known : AreSupplied c.args.parts.now (supplied c.in_ok-joined.joined.feeders c.as_slice.result.now) = subst (λ (ws : List Way). AreSupplied parts (supplied feeders ws)) (sym c.as_slice.ensures.value) (are_supplied parts wires feeders c.followed-ends.result.items joined ends) in
+    let ends : AreEnded (map (way_of (length c.args.parts.now.actors) c.in_ok-joined.joined.feeders) c.in_ok-joined.joined.wires.items) c.follow_all-ends.result.items = subst (λ (ws : List Way). AreEnded ws c.follow_all-ends.result.items) begun c.follow_all-ends.ensures in
+    let known : AreSupplied c.args.parts.now (supplied c.in_ok-joined.joined.feeders c.as_slice.result.now) = subst (λ (ws : List Way). AreSupplied parts (supplied feeders ws)) (sym c.as_slice.ensures.value) (are_supplied parts wires feeders c.follow_all-ends.result.items joined ends) in
     known
 
 pub returns-clause-judged : goal.returns-clause-judged
@@ -65,8 +65,8 @@ returns-clause-connections c =
     let begun : c.in_ok-ways.ways.items ≡ map (way_of (length c.args.parts.now.actors) c.in_ok-joined.joined.feeders) c.in_ok-joined.joined.wires.items =
     c.in_ok-ways.ensures ∙ ap (λ (n : ℕ). map (way_of n feeders) c.as_slice-wires.result.now) c.len.ensures ∙ ap (λ (ws : List Wire). map (way_of actors feeders) ws) c.as_slice-wires.ensures.value in
     let joined : IsJoined c.args.parts.now c.in_ok-joined.joined.wires.items c.in_ok-joined.joined.feeders = record { apart = places_apart parts c.requires.distinct; wires_are = c.in_ok-joined.ensures.wires; indexed = c.in_ok-joined.ensures.feeders } in
-    let ends : AreEnded (map (way_of (length c.args.parts.now.actors) c.in_ok-joined.joined.feeders) c.in_ok-joined.joined.wires.items) c.followed-ends.result.items = subst (λ (ws : List Way). AreEnded ws c.followed-ends.result.items) begun c.followed-ends.ensures in
-    let known : AreSupplied c.args.parts.now (supplied c.in_ok-joined.joined.feeders c.as_slice.result.now) = subst (λ (ws : List Way). AreSupplied parts (supplied feeders ws)) (sym c.as_slice.ensures.value) (are_supplied parts wires feeders c.followed-ends.result.items joined ends) in
+    let ends : AreEnded (map (way_of (length c.args.parts.now.actors) c.in_ok-joined.joined.feeders) c.in_ok-joined.joined.wires.items) c.follow_all-ends.result.items = subst (λ (ws : List Way). AreEnded ws c.follow_all-ends.result.items) begun c.follow_all-ends.ensures in
+    let known : AreSupplied c.args.parts.now (supplied c.in_ok-joined.joined.feeders c.as_slice.result.now) = subst (λ (ws : List Way). AreSupplied parts (supplied feeders ws)) (sym c.as_slice.ensures.value) (are_supplied parts wires feeders c.follow_all-ends.result.items joined ends) in
     IfOk-weaker c.connections_of.result (λ (v : Vec Connection). v.items ≡ links_from (supplied c.in_ok-joined.joined.feeders c.as_slice.result.now) 0 (actor_places c.args.parts.now)) (λ (v : Vec Connection). (j : Connection) → Among v.items j ↔ Connects c.args.parts.now j)
     (λ v e j. subst (λ (js : List Connection). Among js j ↔ Connects parts j) (sym e) (links_connect parts (supplied feeders c.as_slice.result.now) j known)) c.connections_of.ensures.links
 

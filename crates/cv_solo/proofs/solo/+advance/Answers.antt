@@ -14,6 +14,6 @@ returns-in-Err-clause-err t c =
 
 pub returns-clause-after : goal.returns-clause-after
 returns-clause-after t c =
-    let within : c.in-Some.first.now < length c.args.joins.now = first_within (length c.args.joins.now) c.args.places.now c.in-Some.rest.now c.in-Some.first.now c.in-Some.ensures.cases.0 c.requires.within in
-    next_changed (λ j s. stream_after c.args.spec.now c.args.actor c.args.action c.args.out.now j s) c.args.joins.now c.args.places.now c.in-Some.rest.now c.args.streams.now.items c.advance_all-rest.new.streams.items c.in-Some.first.now _ c.index_mut.result.now c.advance.new.stream
-    c.in-Some.ensures.cases.0 within (get_or_default c.args.joins.now c.in-Some.first.now _ _ within) c.index_mut.ensures.value c.in_ok-change.ensures.after c.in_default-rest.ensures.after
+    let within : c.in-Some.first.now < length c.args.connections.now = first_within (length c.args.connections.now) c.args.places.now c.in-Some.rest.now c.in-Some.first.now c.in-Some.ensures.cases.0 c.requires.within in
+    next_changed (λ j s. stream_after c.args.spec.now c.args.actor c.args.action c.args.out.now j s) c.args.connections.now c.args.places.now c.in-Some.rest.now c.args.streams.now.items c.advance_all-rest.new.streams.items c.in-Some.first.now _ c.index_mut.result.now c.advance.new.stream
+    c.in-Some.ensures.cases.0 within (get_or_default c.args.connections.now c.in-Some.first.now _ _ within) c.index_mut.ensures.value c.in_ok-change.ensures.after c.in_default-rest.ensures.after

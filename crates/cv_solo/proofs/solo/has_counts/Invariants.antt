@@ -5,4 +5,4 @@ use Rattle.cv_solo.specs.OneRuntime.{inputs_from}
 use Rattle.cv_solo.proofs.solo.has_counts.Given as goal
 
 abbrev pub invariant-loop-port : goal.invariant-loop-port
-invariant-loop-port l = has_counts (row_of l.spec.kind) l.spec.args l.action l.port (inputs_from l.joins l.streams l.actor l.port ((row_of l.spec.kind).inports - l.port)) ≡ has_counts (row_of l.spec.kind) l.spec.args l.action 0 (inputs_from l.joins l.streams l.actor 0 (row_of l.spec.kind).inports)
+invariant-loop-port l = has_counts (row_of l.spec.kind) l.spec.args l.action l.port (inputs_from l.connections l.streams l.actor l.port ((row_of l.spec.kind).inports - l.port)) ≡ has_counts (row_of l.spec.kind) l.spec.args l.action 0 (inputs_from l.connections l.streams l.actor 0 (row_of l.spec.kind).inports)

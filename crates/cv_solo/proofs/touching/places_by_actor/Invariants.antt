@@ -5,5 +5,5 @@ use Rattle.cv_solo.proofs.touching.places_by_actor.Given as goal
 abbrev pub invariant-loop-place : goal.invariant-loop-place
 invariant-loop-place l = record {
   by_actor : length l.places.items ≡ l.actors;
-  so_far : (actor : ℕ) → actor < l.actors → slice_index_or l.places.items actor [] ++ touching_from l.place (drop l.place l.joins) actor ≡ touching l.joins actor;
+  so_far : (actor : ℕ) → actor < l.actors → slice_index_or l.places.items actor [] ++ touching_from l.place (drop l.place l.connections) actor ≡ touching l.connections actor;
 }

@@ -5,5 +5,5 @@ use Rattle.cv_state.proofs.deploy.new_lives.Given as goal
 abbrev pub invariant-loop-place : goal.invariant-loop-place
 invariant-loop-place l = record {
   due : are_due l.now (drop l.place l.actors) ≡ true;
-  whole : l.lives.items ++ new_lives l.app l.joins l.now l.place (drop l.place l.actors) ≡ new_lives l.app l.joins l.now 0 l.actors;
+  whole : l.lives.items ++ new_lives l.app l.connections l.now l.place (drop l.place l.actors) ≡ new_lives l.app l.connections l.now 0 l.actors;
 }

@@ -53,11 +53,11 @@ returns-clause-done c =
     let h = seated_again c.args.conn c.in-Some.live.now l inp one c.in-Some-seat.ensures in
     let is = fed_is c.args.conn l inp (λ (i : Inlet). i.port) h port c.in-Some-inp_mut.ensures.value in
     let ends : ConnId × ActorId = (c.in-Some-feed.fed, c.in-Some-feed.producer) in
-    let joins = fed_is c.args.conn l inp (λ (i : Inlet). (i.conn, i.producer)) h ends (c.in-Some-feed.ensures ∙ ap (λ (x : LiveState). option_map (λ (i : Inlet). (i.conn, i.producer)) (inlet_at x inp)) one) in
+    let connections = fed_is c.args.conn l inp (λ (i : Inlet). (i.conn, i.producer)) h ends (c.in-Some-feed.ensures ∙ ap (λ (x : LiveState). option_map (λ (i : Inlet). (i.conn, i.producer)) (inlet_at x inp)) one) in
     let first = fed_is c.args.conn l inp (λ (i : Inlet). i.port) h c.in-Some-inp.port.now (c.in-Some-inp.ensures ∙ ap (λ (x : LiveState). option_map (λ (i : Inlet). i.port) (inlet_at x inp)) one) in
     let token = c.in_ok-token.ensures in
     let after = c.on_token-answer.ensures.after ∙ ap (after_offer port n) token in
     let answers = c.on_token-answer.ensures.answer ∙ ap (answer_of port n) token in
     let fits = c.if-not-fits_offer.ensures.value t ∙ ap (λ (q : InView). nat_lt (received (after_offer q n t)) limit) (first ∙ sym is) in
     let next : NodeState = record s { live = map.insert s.live a (with_inport l inp c.on_token-answer.new.inp) } in
-    subst (λ (s : NodeState). Does (token_comes s c.args.stamp c.args.sender c.args.conn a n t (map.get s.live a)) next c.one.result) c.self.view_is (offered s c.args.stamp c.args.sender c.args.conn a n t l inp h port c.on_token-answer.new.inp ends c.on_token-answer.result c.told.result c.one.result c.in-Some-get_mut.ensures.value is joins after answers c.told.ensures c.one.ensures fits)
+    subst (λ (s : NodeState). Does (token_comes s c.args.stamp c.args.sender c.args.conn a n t (map.get s.live a)) next c.one.result) c.self.view_is (offered s c.args.stamp c.args.sender c.args.conn a n t l inp h port c.on_token-answer.new.inp ends c.on_token-answer.result c.told.result c.one.result c.in-Some-get_mut.ensures.value is connections after answers c.told.ensures c.one.ensures fits)

@@ -1,7 +1,0 @@
-use Rattle.std.proofs.Common.{false}
-use Rattle.cv_settle.specs.Settling.{Sweeps}
-use Rattle.cv_settle.proofs.carrying.pass_all.Given as goal
-
--- what was done so far
-abbrev pub invariant-loop-token : goal.invariant-loop-token
-invariant-loop-token l = Sweeps false l.fn.stations l.stations
