@@ -1,14 +1,13 @@
 //! Rows of single steps: what the calls tell, moves that are refused, and transfers that come late.
 
-use crate::letters::Says;
-use crate::matching::says_of;
+use cv_fixtures::{node_spec, text};
 use cv_flow::FlowKind;
 use cv_kinds::{ActorSpec, Kind, Network};
 use cv_node::{Node, Seen};
-use cv_protocol::{Event, Frame, Location, Sent, StepRefusal, Verdict};
-use cv_rules::{Attrs, NodeSpec};
+use cv_protocol::{Body, Event, Frame, Location, Sent, StepRefusal, Verdict};
+use cv_rules::Attrs;
 use cv_station::copy_frame;
-use cv_token::{ActorId, AppId, Items, OutOfMemory, Text, Token};
+use cv_token::{ActorId, AppId, Items, OutOfMemory, Token};
 use sqlite_items::Boxed;
 use std::alloc::{AllocError, Global};
 use std::process::Abort;
@@ -27,7 +26,7 @@ fn network(alloc: Global) -> Result<Network, OutOfMemory> {
     }
     let mut actors = Vec::new(alloc);
     actors.push(ActorSpec {
-        path: Text::from_string(String::from_str(alloc, "t")?),
+        path: text(alloc, "t")?,
         kind: Kind::Flow(FlowKind::CountTimer),
         args,
     })?;
@@ -40,15 +39,7 @@ fn network(alloc: Global) -> Result<Network, OutOfMemory> {
 /// Node `no`, which knows nodes 1 to 3.
 fn node(rt: &impl Abort, alloc: Global, no: u16) -> Result<Node, Fail> {
     assert!(rt; 1 <= no && no <= 64);
-    let mut node = Node::new(
-        alloc,
-        NodeSpec {
-            no,
-            room: 9,
-            window: 1,
-            attrs: Attrs::new(alloc),
-        },
-    )?;
+    let mut node = Node::new(alloc, node_spec(alloc, no, 9))?;
     for other in 1..4 {
         let attrs = Attrs::new(alloc);
         let met = node.step(alloc, Event::Meet { node: other, attrs });
@@ -61,7 +52,7 @@ fn node(rt: &impl Abort, alloc: Global, no: u16) -> Result<Node, Fail> {
 fn first(rt: &impl Abort, alloc: Global) -> Result<Node, Fail> {
     let mut node = node(rt, alloc, 1)?;
     let event = Event::Deploy {
-        name: Text::from_string(String::from_str(alloc, "n")?),
+        name: text(alloc, "n")?,
         net: Boxed::new(alloc, network(alloc)?)?,
     };
     assert!(rt; node.step(alloc, event).is_ok());
@@ -159,11 +150,27 @@ fn travel_thrice(
     travel(rt, alloc, nodes, 1, 2)
 }
 
-/// What the frame says.
-fn says(frame: &Option<Frame>) -> Option<Says> {
-    match frame {
-        Some(frame) => Some(says_of(&frame.body)),
-        None => None,
+/// The actor, the attempt and the verdict that the frame tells, where it tells a verdict.
+fn verdict_of(frame: &Option<Frame>) -> Option<(ActorId, u64, Verdict)> {
+    match &frame.as_ref()?.body {
+        Body::Verdict {
+            actor,
+            attempt,
+            verdict,
+        } => Some((*actor, *attempt, *verdict)),
+        _ => None,
+    }
+}
+
+/// The actor, the attempt and the node that the frame tells, where it tells a place.
+fn place_of(frame: &Option<Frame>) -> Option<(ActorId, u64, u16)> {
+    match &frame.as_ref()?.body {
+        Body::Located {
+            actor,
+            attempt,
+            node,
+        } => Some((*actor, *attempt, *node)),
+        _ => None,
     }
 }
 
@@ -318,12 +325,12 @@ fn late_transfers_are_answered(rt: HostRuntime) -> Result<(), Fail> {
     let mut nodes = nodes(&rt, alloc)?;
     let third = travel_thrice(&rt, alloc, &mut nodes)?;
     let at_once = deliver(&rt, alloc, &mut nodes, &third)?;
-    assert!(rt; says(&at_once) == Some(Says::Verdict(ACTOR, 3, Verdict::Accepted)));
+    assert!(rt; verdict_of(&at_once) == Some((ACTOR, 3, Verdict::Accepted)));
     assert_eq!(rt; seen(&nodes, 2), Some(Seen::Live));
     let _fourth = travel(&rt, alloc, &mut nodes, 2, 3)?;
     let _fifth = travel(&rt, alloc, &mut nodes, 3, 1)?;
     let late = deliver(&rt, alloc, &mut nodes, &third)?;
-    assert!(rt; says(&late) == Some(Says::Located(ACTOR, 4, 3)));
+    assert!(rt; place_of(&late) == Some((ACTOR, 4, 3)));
     assert_eq!(rt; seen(&nodes, 2), Some(Seen::Away(3)));
     assert_eq!(rt; seen(&nodes, 1), Some(Seen::Live));
     Ok(())

@@ -10,7 +10,7 @@ use cv_rules::Attrs;
 use cv_station::{Peer, Station};
 use cv_token::{ActorId, AppId, OutOfMemory};
 use sqlite_items::Boxed;
-use std::alloc::{AllocError, Global};
+use std::alloc::Global;
 use std::process::Abort;
 use std::test::Fail;
 
@@ -45,8 +45,11 @@ fn own_peer(alloc: Global, no: u16) -> Result<Peer, OutOfMemory> {
 }
 
 /// Two peers in this order.
-fn both(alloc: Global, one: Peer, two: Peer) -> Result<Vec<Peer>, AllocError> {
-    Vec::from_array(alloc, [one, two])
+fn both(alloc: Global, one: Peer, two: Peer) -> Result<Vec<Peer>, OutOfMemory> {
+    let mut peers = Vec::new(alloc);
+    peers.push(one)?;
+    peers.push(two)?;
+    Ok(peers)
 }
 
 fn station(alloc: Global, no: u16, peers: Vec<Peer>, quota: u32) -> Result<Station, OutOfMemory> {

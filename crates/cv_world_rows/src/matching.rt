@@ -1,10 +1,10 @@
 //! Whether what a node tells is what its second reading tells.
 
-use crate::beings::Being;
-use crate::letters::{Known, Letter, Parcel, Says};
-use crate::reading::Reading;
 use cv_actor::Live;
 use cv_node::Node;
+use cv_node_reading::beings::Being;
+use cv_node_reading::letters::{Known, Letter, Parcel, Says};
+use cv_node_reading::reading::Reading;
 use cv_protocol::{ActorState, Body, Frame, Hint};
 use cv_queue::{InPort, OutPort};
 use cv_token::{ActorId, Token};

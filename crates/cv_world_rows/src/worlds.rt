@@ -1,14 +1,15 @@
 //! Small networks on a few nodes, stepped at random: each event goes to the node and to its second reading.
 
-use crate::beings::{Does, Look};
-use crate::letters::{Letter, Says};
 use crate::matching::{are_alike, is_same};
-use crate::reading::{LIMIT, Reading};
+use cv_fixtures::{node_spec, text};
 use cv_flow::FlowKind;
 use cv_kinds::{ActorSpec, Connection, Kind, Network};
 use cv_node::Node;
+use cv_node_reading::beings::{Does, Look};
+use cv_node_reading::letters::{Letter, Says};
+use cv_node_reading::reading::{LIMIT, Reading};
 use cv_protocol::{Event, Frame, Frames, Sent, StepRefusal};
-use cv_rules::{Attrs, NodeSpec};
+use cv_rules::Attrs;
 use cv_station::copy_frame;
 use cv_token::{ActorId, AppId, ConnId, Items, OutOfMemory, Text, Token};
 use sqlite_items::Boxed;
@@ -171,13 +172,7 @@ impl World {
         let mut readings = Vec::new(alloc);
         for no in 1..=NODES {
             assert!(rt; 1 <= no && no <= 64);
-            let spec = NodeSpec {
-                no,
-                room: 6,
-                window: 1,
-                attrs: Attrs::new(alloc),
-            };
-            nodes.push(Node::new(alloc, spec)?)?;
+            nodes.push(Node::new(alloc, node_spec(alloc, no, 6))?)?;
             readings.push(Reading::new(alloc, no, 6)?)?;
         }
         Ok(World {
@@ -338,7 +333,7 @@ impl World {
 
     fn deploy(&mut self, alloc: Global) -> Result<Event, OutOfMemory> {
         Ok(Event::Deploy {
-            name: Text::from_string(String::from_str(alloc, "n")?),
+            name: text(alloc, "n")?,
             net: Boxed::new(alloc, network(alloc, &mut self.dice)?)?,
         })
     }
