@@ -2,9 +2,9 @@
 
 ghost use Rattle.std.specs.Prelude.{◌≡◌, IfOk};
 
+use cv_fixtures::node_spec;
 use cv_merge::merge;
 use cv_protocol::{Entry, Event, Journal};
-use cv_rules::{Attrs, NodeSpec};
 use cv_token::OutOfMemory;
 use std::alloc::Global;
 use std::process::Abort;
@@ -22,14 +22,8 @@ fn ticks(alloc: Global, no: u16, stamps: &[u64]) -> Result<Journal, OutOfMemory>
             event,
         })?;
     }
-    let spec = NodeSpec {
-        no,
-        room: 8,
-        window: 1,
-        attrs: Attrs::new(alloc),
-    };
     Ok(Journal {
-        spec,
+        spec: node_spec(alloc, no, 8),
         dropped: 0,
         entries,
     })

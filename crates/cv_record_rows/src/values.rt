@@ -1,10 +1,11 @@
 //! The entries of the rows.
 
 use cv_entry::{Head, head_read};
+use cv_fixtures::text;
 use cv_network::network_read;
 use cv_protocol::{Body, Entry, Event, Frame};
 use cv_rules::Attrs;
-use cv_token::{ActorId, AppId, ConnId, OutOfMemory, Text, Token};
+use cv_token::{ActorId, AppId, ConnId, OutOfMemory, Token};
 use sqlite_items::Boxed;
 use std::alloc::Global;
 use std::test::Fail;
@@ -13,10 +14,6 @@ const NETWORK: &str =
     "{\"actors\":[[\"src\",\"std.Constant\",[1,5],null],[\"snk\",\"io.Print\",[],null]],\"connections\":[[0,\"token\",1,\"token\"]]}";
 
 const HEAD: &str = "[\"node\",1,1,1,{\"node.name\":\"n\\\"1\",\"zone.id\":\"\"},0]";
-
-fn text(alloc: Global, text: &str) -> Result<Text, OutOfMemory> {
-    Ok(Text::from_string(String::from_str(alloc, text)?))
-}
 
 fn actor(node: u16, seq: u32, actor: u16) -> ActorId {
     ActorId {
