@@ -78,7 +78,7 @@ fn second(alloc: Global, tx: Tx, rx: Rx, quota: u32) -> Result<Station, OutOfMem
 }
 
 /// Two stations that these rings join.
-fn joined(
+fn connect(
     alloc: Global,
     there: Pair,
     back: Pair,
@@ -93,7 +93,7 @@ fn joined(
 fn stations(alloc: Global, item: Item, quota: u32) -> Result<(Station, Station), OutOfMemory> {
     let there = ring_with(alloc, item)?;
     let back = plain_ring(alloc, 2, 1)?;
-    joined(alloc, there, back, quota)
+    connect(alloc, there, back, quota)
 }
 
 /// Deploys the network, of a constant with so many tokens and the sink.
@@ -152,7 +152,7 @@ fn rounds(alloc: Global, one: &mut Station, two: &mut Station, rounds: u32) -> (
 }
 
 /// What both journals say after so many rounds, and how many firings each node made.
-fn played(
+fn play(
     alloc: Global,
     item: Item,
     quota: u32,
@@ -173,7 +173,7 @@ fn tells(
     wanted: (&str, &str),
     firings: (u32, u32),
 ) -> Result<(), Fail> {
-    let (one, two, fired) = played(alloc, item, 100, 8)?;
+    let (one, two, fired) = play(alloc, item, 100, 8)?;
     assert_eq!(rt; one.as_str(), wanted.0);
     assert_eq!(rt; two.as_str(), wanted.1);
     assert_eq!(rt; fired, firings);
@@ -187,7 +187,7 @@ fn firings(alloc: Global, quota: u32, times: u32) -> Result<(u32, u32), Fail> {
         to: 1,
         k: 1,
     };
-    let (_one, _two, fired) = played(alloc, item, quota, times)?;
+    let (_one, _two, fired) = play(alloc, item, quota, times)?;
     Ok(fired)
 }
 
