@@ -1,6 +1,6 @@
 //! The ends of a connection at an actor.
 
-ghost use Rattle.std.specs.Prelude.{◌≡◌, ◌<◌, length};
+ghost use Rattle.std.specs.Prelude.{◌≡◌, ◌<◌, length, ◌^◌};
 ghost use Rattle.std.specs.Option.{option_map};
 ghost use Rattle.cv_protocol.specs.Rows.{reader_of, spot_of, seat_of};
 ghost use Rattle.cv_actor.specs.Ends.{spot_in};
@@ -34,7 +34,7 @@ fn reader_of(conn: ConnId, out: &OutPort) -> Option<(u16, Reader)>
 
 /// The first reader of the connection.
 pub(crate) fn spot_of(conn: ConnId, outs: &[OutPort]) -> Option<Spot>
-    requires { length outs.now < 256 }
+    requires { length outs.now < 2 ^ 8 }
     ensures { result ≡ option_map spot_in (spot_of conn 0 outs.now) }
 {
     for (out, port) in outs.iter().enumerate() {
@@ -51,7 +51,7 @@ pub(crate) fn spot_of(conn: ConnId, outs: &[OutPort]) -> Option<Spot>
 
 /// The first inport that the connection feeds.
 pub(crate) fn seat_of(conn: ConnId, ins: &[Option<Inlet>]) -> Option<u8>
-    requires { length ins.now < 256 }
+    requires { length ins.now < 2 ^ 8 }
     ensures { result ≡ option_map (λ y. y.inp) (seat_of conn 0 ins.now) }
 {
     for (place, inlet) in ins.iter().enumerate() {

@@ -1,6 +1,6 @@
 //! What a firing takes from the inports and writes to the outports.
 
-ghost use Rattle.std.specs.Prelude.{◌≡◌, ◌++◌, ◌<◌, ◌≤◌, drop, length, take, None, true, IfOk, IsSomeAnd, OnOk};
+ghost use Rattle.std.specs.Prelude.{◌≡◌, ◌++◌, ◌<◌, ◌≤◌, drop, length, take, None, true, IfOk, IsSomeAnd, OnOk, ◌^◌};
 ghost use Rattle.cv_behave.specs.KindRow.{needed, heads_of};
 ghost use Rattle.cv_kinds.specs.KindRow.{row_of};
 ghost use Rattle.cv_protocol.specs.Poll.{inputs, first_short, first_unread, read_in, taken_from, without_needed, with_given, with_token, first_given};
@@ -40,7 +40,7 @@ pub(crate) fn copied_heads(
     action: u8,
     ins: &[Option<Inlet>],
 ) -> Result<Items, OutOfMemory>
-    requires few { length ins.now < 256 }
+    requires few { length ins.now < 2 ^ 8 }
     requires held { first_short (needed (row_of spec.now.kind) spec.now.args action) 0 ins.now ≡ None }
     ensures { IfOk result (λ heads. heads ≡ heads_of (row_of spec.now.kind) spec.now.args action 0 (inputs ins.now)) }
 {
@@ -76,7 +76,7 @@ fn take_read(inlet: &mut Option<Inlet>, count: u16)
 
 /// Takes the tokens that the action needs, which are read, and gives all other reads up.
 pub(crate) fn take_needed(spec: &ActorSpec, action: u8, ins: &mut [Option<Inlet>])
-    requires few { length ins.old < 256 }
+    requires few { length ins.old < 2 ^ 8 }
     requires read { first_unread (needed (row_of spec.now.kind) spec.now.args action) 0 ins.old ≡ None }
     ensures { ins.new ≡ without_needed (needed (row_of spec.now.kind) spec.now.args action) 0 ins.old }
 {

@@ -10,6 +10,7 @@ ghost use Rattle.cv_protocol.specs.Travel.{capture, first_due, new_live, restore
 ghost use Rattle.cv_actor.specs.Ends.{spot_in};
 ghost use Rattle.cv_actor.specs.Passing.{MayPass, can_pass, passed};
 ghost use Rattle.cv_actor.specs.Polled.{seen, foreseen, peeked, IsNew};
+ghost use Rattle.cv_kinds.specs.Net.{most_connections};
 
 use crate::finding;
 use crate::finding::Spot;
@@ -130,7 +131,7 @@ impl Live {
         connections: &[Connection],
         now: u64,
     ) -> Result<Live, OutOfMemory>
-        requires few { length connections.now ≤ 4096 }
+        requires few { length connections.now ≤ most_connections }
         requires moment { first_due spec.now now < 2 ^ 62 }
         ensures { IfOk result (λ live. live ≡ new_live id.app connections.now id.actor spec.now now) }
     {
@@ -162,7 +163,7 @@ impl Live {
     /// The inports, of which there are few.
     fn ins(&self) -> &[Option<Inlet>]
         ensures value { result.now ≡ self.now.actor.ins }
-        ensures few { length result.now < 256 }
+        ensures few { length result.now < 2 ^ 8 }
     {
         self.ins.as_slice()
     }
@@ -170,7 +171,7 @@ impl Live {
     /// The outports, of which there are few.
     fn outs(&self) -> &[OutPort]
         ensures value { result.now ≡ self.now.actor.outs }
-        ensures few { length result.now < 256 }
+        ensures few { length result.now < 2 ^ 8 }
     {
         self.outs.as_slice()
     }

@@ -1,6 +1,6 @@
 //! What an action finds in the ports of its actor.
 
-ghost use Rattle.std.specs.Prelude.{◌≡◌, ◌<◌, length};
+ghost use Rattle.std.specs.Prelude.{◌≡◌, ◌<◌, length, ◌^◌};
 ghost use Rattle.std.specs.Option.{option_copied, option_map};
 ghost use Rattle.cv_behave.specs.KindRow.{needed, given, head_at};
 ghost use Rattle.cv_kinds.specs.KindRow.{row_of};
@@ -34,7 +34,7 @@ fn read_in(inlet: &Option<Inlet>) -> u16
 
 /// The lack of the first inport that holds fewer tokens than the action needs.
 pub(crate) fn first_short(spec: &ActorSpec, action: u8, ins: &[Option<Inlet>]) -> Option<Need>
-    requires { length ins.now < 256 }
+    requires { length ins.now < 2 ^ 8 }
     ensures { result ≡ first_short (needed (row_of spec.now.kind) spec.now.args action) 0 ins.now }
 {
     for (port, inlet) in ins.iter().enumerate() {
@@ -48,7 +48,7 @@ pub(crate) fn first_short(spec: &ActorSpec, action: u8, ins: &[Option<Inlet>]) -
 
 /// The first inport of which the action needs more tokens than are read.
 pub(crate) fn first_unread(spec: &ActorSpec, action: u8, ins: &[Option<Inlet>]) -> Option<u8>
-    requires { length ins.now < 256 }
+    requires { length ins.now < 2 ^ 8 }
     ensures { result ≡ first_unread (needed (row_of spec.now.kind) spec.now.args action) 0 ins.now }
 {
     for (port, inlet) in ins.iter().enumerate() {
@@ -61,7 +61,7 @@ pub(crate) fn first_unread(spec: &ActorSpec, action: u8, ins: &[Option<Inlet>]) 
 
 /// The first outport that has no place for what the action gives it.
 pub(crate) fn first_crowded(kind: Kind, action: u8, outs: &[OutPort]) -> Option<u8>
-    requires { length outs.now < 256 }
+    requires { length outs.now < 2 ^ 8 }
     ensures { result ≡ first_crowded (given (row_of kind) action) 0 outs.now }
 {
     for (port, out) in outs.iter().enumerate() {

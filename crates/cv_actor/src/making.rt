@@ -2,6 +2,7 @@
 
 ghost use Rattle.std.specs.Prelude.{◌≡◌, ◌≤◌, length, IfOk};
 ghost use Rattle.cv_protocol.specs.Travel.{inlet_of, inlets_of, readers_of, outs_of};
+ghost use Rattle.cv_kinds.specs.Net.{most_connections};
 
 use cv_kinds::Connection;
 use cv_protocol::Inlet;
@@ -19,7 +20,7 @@ pub(crate) fn new_inlets(
     connections: &[Connection],
     count: u8,
 ) -> Result<Vec<Option<Inlet>>, OutOfMemory>
-    requires { length connections.now ≤ 4096 }
+    requires { length connections.now ≤ most_connections }
     ensures { IfOk result (λ ins. ins.items ≡ inlets_of id.app connections.now id.actor 0 count) }
 {
     let mut ins = Vec::with_capacity(alloc, usize::from(count))?;
@@ -36,7 +37,7 @@ fn new_inlet(
     connections: &[Connection],
     port: u8,
 ) -> Result<Option<Inlet>, OutOfMemory>
-    requires { length connections.now ≤ 4096 }
+    requires { length connections.now ≤ most_connections }
     ensures { IfOk result (λ inlet. inlet ≡ inlet_of id.app 0 connections.now id.actor port) }
 {
     for (place, connection) in connections.iter().enumerate() {
@@ -64,7 +65,7 @@ pub(crate) fn new_outs(
     connections: &[Connection],
     count: u8,
 ) -> Result<Vec<OutPort>, OutOfMemory>
-    requires { length connections.now ≤ 4096 }
+    requires { length connections.now ≤ most_connections }
     ensures { IfOk result (λ outs. outs.items ≡ outs_of id.app connections.now id.actor 0 count) }
 {
     let mut outs = Vec::with_capacity(alloc, usize::from(count))?;
@@ -82,7 +83,7 @@ fn new_readers(
     connections: &[Connection],
     port: u8,
 ) -> Result<Readers, OutOfMemory>
-    requires { length connections.now ≤ 4096 }
+    requires { length connections.now ≤ most_connections }
     ensures { IfOk result (λ readers. readers ≡ readers_of id.app 0 connections.now id.actor port) }
 {
     let mut readers = Readers::new(alloc);

@@ -31,7 +31,7 @@ fn fits_taken(inlet: &Option<Inlet>, count: u16) -> bool
 
 /// Whether all are, once the tokens were taken that the action needs.
 pub(crate) fn all_fit_taken(spec: &ActorSpec, action: u8, ins: &[Option<Inlet>]) -> bool
-    requires few { length ins.now < 256 }
+    requires few { length ins.now < 2 ^ 8 }
     requires held { first_short (needed (row_of spec.now.kind) spec.now.args action) 0 ins.now ≡ None }
     ensures { result ≡ all_inlets_fit (without_needed (needed (row_of spec.now.kind) spec.now.args action) 0 ins.now) }
 {
@@ -45,7 +45,7 @@ pub(crate) fn all_fit_taken(spec: &ActorSpec, action: u8, ins: &[Option<Inlet>])
 
 /// Whether each outport has a number for what the action gives it.
 pub(crate) fn have_numbers(kind: Kind, action: u8, outs: &[OutPort]) -> bool
-    requires { length outs.now < 256 }
+    requires { length outs.now < 2 ^ 8 }
     ensures { result ≡ have_numbers (given (row_of kind) action) 0 outs.now }
 {
     for (port, out) in outs.iter().enumerate() {

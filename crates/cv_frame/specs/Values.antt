@@ -19,6 +19,7 @@ use Rattle.cv_protocol.specs.declared.frame.Body.{Body}
 use Rattle.cv_protocol.specs.declared.frame.Body.TheVariants as body
 use Rattle.cv_protocol.specs.declared.frame.Frame.{Frame}
 use Rattle.cv_frame.specs.Trees.{most_readers}
+use Rattle.cv_protocol.specs.Rows.{most_nodes}
 
 -- 1. Numbers and identifiers
 
@@ -28,7 +29,7 @@ IsCount n = n < 2 ^ 62
 
 -- the number of a node
 abbrev pub IsNode : ℕ → Type 0
-IsNode n = (1 ≤ n) × (n ≤ 64)
+IsNode n = (1 ≤ n) × (n ≤ most_nodes)
 
 pub record IsApp (a : AppId) : Type 0 where
   pub node : IsNode a.node

@@ -1,6 +1,6 @@
 //! Connections: what feeds each inport of the actors.
 
-ghost use Rattle.std.specs.Prelude.{◌≡◌, ◌≤◌, ◌<◌, ◌++◌, ℕ, List, Some, IfOk, length, map, slice_get};
+ghost use Rattle.std.specs.Prelude.{◌≡◌, ◌≤◌, ◌<◌, ◌++◌, ℕ, List, Some, IfOk, length, map, slice_get, ◌^◌};
 ghost use Rattle.cv_expand.specs.Bodies.{Among};
 ghost use Rattle.cv_expand.specs.declared.flat.Parts.{Parts};
 ghost use Rattle.cv_graph.specs.declared.port.Port.{Port};
@@ -11,6 +11,7 @@ ghost use Rattle.cv_graph.specs.Faults.{Judges};
 ghost use Rattle.cv_graph.specs.Links.{way_of, supply_in, supplied, AreSupplied, Linked, links_at, links_from};
 ghost use Rattle.cv_graph.specs.Ports.{actor_place, actor_places};
 ghost use Rattle.cv_graph.specs.Tables.{feeder};
+ghost use Rattle.cv_kinds.specs.Net.{most_actors};
 
 use crate::fault::GraphFault;
 use crate::port::{Port, Side, Wire};
@@ -29,8 +30,8 @@ pub fn ways_of(
     feeders: &BTreeMap<Port, usize>,
     wires: &[Wire],
 ) -> Result<Vec<Way>, OutOfMemory>
-    requires few { actors ≤ 256 }
-    requires small { (wire : Wire) (port : Port) → Among wires.now wire → wire.source ≡ Some port → port.place < actors → port.number < 256 }
+    requires few { actors ≤ most_actors }
+    requires small { (wire : Wire) (port : Port) → Among wires.now wire → wire.source ≡ Some port → port.place < actors → port.number < 2 ^ 8 }
     ensures { IfOk result (λ ways. ways.items ≡ map (way_of actors feeders.now) wires.now) }
 {
     let mut ways = Vec::with_capacity(alloc, wires.len())?;
@@ -42,8 +43,8 @@ pub fn ways_of(
 
 /// The way back from a join.
 fn way_of(actors: usize, feeders: &BTreeMap<Port, usize>, wire: Wire) -> Way
-    requires few { actors ≤ 256 }
-    requires small { (port : Port) → wire.source ≡ Some port → port.place < actors → port.number < 256 }
+    requires few { actors ≤ most_actors }
+    requires small { (port : Port) → wire.source ≡ Some port → port.place < actors → port.number < 2 ^ 8 }
     ensures { result ≡ way_of actors feeders.now wire }
 {
     match wire.source {
@@ -66,7 +67,7 @@ pub fn connections_of(
     feeders: &BTreeMap<Port, usize>,
     ways: &[Way],
 ) -> Result<Vec<Connection>, GraphFault>
-    requires few { length (parts.now).actors ≤ 256 }
+    requires few { length (parts.now).actors ≤ most_actors }
     requires supplied { AreSupplied parts.now (supplied feeders.now ways.now) }
     ensures judged { Judges parts.now (fed_checks (parts.now).actors) result }
     ensures links { IfOk result (λ connections. connections.items ≡ links_from (supplied feeders.now ways.now) 0 (actor_places parts.now)) }
@@ -86,7 +87,7 @@ fn connect_actor(
     ways: &[Way],
     connections: Vec<Connection>,
 ) -> Result<Vec<Connection>, GraphFault>
-    requires { to < 256 }
+    requires { to < most_actors }
     ensures judged { (parts : Parts) → AreSupplied parts (supplied feeders.now ways.now) → slice_get parts.actors to ≡ Some actor.now → Judges parts (inport_checks actor.now (actor_place actor.now).inports) result }
     ensures links { IfOk result (λ all. all.items ≡ connections.items ++ links_at (supplied feeders.now ways.now) to 0 (actor_place actor.now).inports) }
 {
@@ -106,8 +107,8 @@ fn link_inport(
     supply: Option<Supply>,
     at: u32,
 ) -> Result<Vec<Connection>, GraphFault>
-    requires to { to < 256 }
-    requires number { number < 256 }
+    requires to { to < most_actors }
+    requires number { number < 2 ^ 8 }
     ensures { Linked connections.items to number supply at result }
 {
     let mut connections = connections;

@@ -9,6 +9,7 @@ ghost use Rattle.cv_graph.specs.Checks.{feed_checks, fed_checks, checks};
 ghost use Rattle.cv_graph.specs.Faults.{Judges};
 ghost use Rattle.cv_graph.specs.Meaning.{Connects, IsNetwork};
 ghost use Rattle.cv_graph.specs.Ways.{AreEnded, AreWithin};
+ghost use Rattle.cv_kinds.specs.Net.{most_connections};
 
 use crate::actors::actors_of;
 use crate::fault::GraphFault;
@@ -40,7 +41,7 @@ fn connections(alloc: Global, parts: &Parts) -> Result<Vec<Connection>, GraphFau
     ensures judged { Judges parts.now (feed_checks [] (parts.now).feeds ++ fed_checks (parts.now).actors) result }
     ensures connections { IfOk result (λ all. (j : Connection) → Among all.items j ↔ Connects parts.now j) }
     ensures rising { IfOk result (λ all. Rising all.items) }
-    ensures few { IfOk result (λ all. length all.items ≤ 4096) }
+    ensures few { IfOk result (λ all. length all.items ≤ most_connections) }
 {
     let table = Places::of(alloc, parts)?;
     let joined = join_feeds(alloc, parts, &table)?;

@@ -8,7 +8,13 @@ pub record Net : Type 0 where
   pub actors : List ActorSpec
   pub connections : List Connection
 
--- a network has at most 256 actors and 4,096 connections
+abbrev pub most_actors : ℕ
+most_actors = 256
+
+abbrev pub most_connections : ℕ
+most_connections = 4096
+
+-- a network is within both bounds
 pub record IsSmall (actors connections : ℕ) : Type 0 where
-  pub few_actors : actors ≤ 256
-  pub few_connections : connections ≤ 4096
+  pub few_actors : actors ≤ most_actors
+  pub few_connections : connections ≤ most_connections

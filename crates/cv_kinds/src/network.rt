@@ -2,6 +2,7 @@
 
 ghost use Rattle.std.specs.Prelude.{◌≡◌, ◌≤◌, length, IfOk};
 ghost use Rattle.cv_kinds.specs.WellFormed.{IsWellFormed};
+ghost use Rattle.cv_kinds.specs.Net.{most_actors, most_connections};
 
 use crate::kind::Kind;
 use cv_token::{Items, OutOfMemory, Text, copy_items};
@@ -87,7 +88,7 @@ impl Network {
     /// The actors, in the order of their declarations.
     pub fn actors(&self) -> &[ActorSpec]
         ensures value { result.now ≡ self.now.actors }
-        ensures few { length result.now ≤ 256 }
+        ensures few { length result.now ≤ most_actors }
     {
         self.actors.as_slice()
     }
@@ -95,7 +96,7 @@ impl Network {
     /// The connections, by consumer and then inport. A connection's place is its position here.
     pub fn connections(&self) -> &[Connection]
         ensures value { result.now ≡ self.now.connections }
-        ensures few { length result.now ≤ 4096 }
+        ensures few { length result.now ≤ most_connections }
     {
         self.connections.as_slice()
     }

@@ -1,6 +1,6 @@
 //! A text cut into its lexemes.
 
-ghost use Rattle.std.specs.Prelude.{◌≡◌, ◌+◌, ◌<◌, ◌≤◌, ◌^◌, length, drop, IfOk, IfErr, ◌↔◌, List, [], ◌∷◌, Ok, Err, Some, None, ℕ};
+ghost use Rattle.std.specs.Prelude.{◌≡◌, ◌+◌, ◌<◌, ◌≤◌, ◌^◌, length, drop, IfOk, IfErr, ◌↔◌, List, [], ◌∷◌, Ok, Err, Some, None, ℕ, codes, ◌++◌};
 ghost use Rattle.cv_lex.specs.Faults.{HasFault, IsCaused};
 ghost use Rattle.cv_lex.specs.Lexemes.{lexemes, with_front, Fails, Gives, Rise};
 ghost use Rattle.cv_lex.specs.Shapes.{IsAt, Stands};
@@ -83,6 +83,6 @@ pub fn one_spelling()
 /// A lexeme that a space follows is the longest that stands there, and so is the space: what a
 /// printer needs that puts a space behind each lexeme.
 pub fn before_a_space()
-    ensures lexeme { (sort : Sort) (front rest : List ℕ) → IsAt (Some sort) front (32 ∷ rest) → Stands (Some sort) front (32 ∷ rest) }
-    ensures space { (rest : List ℕ) → Stands None (32 ∷ []) rest }
+    ensures lexeme { (sort : Sort) (front rest : List ℕ) → IsAt (Some sort) front (codes " " ++ rest) → Stands (Some sort) front (codes " " ++ rest) }
+    ensures space { (rest : List ℕ) → Stands None (codes " ") rest }
 {}

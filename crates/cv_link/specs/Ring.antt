@@ -6,13 +6,17 @@ use Rattle.cv_link.specs.declared.ring.Tx.{Tx}
 use Rattle.cv_link.specs.declared.ring.Rx.{Rx}
 use Rattle.cv_link.specs.Plan.{PlanView}
 
+-- How many frames a ring holds.
+abbrev pub ring_length : ℕ
+ring_length = 64
+
 -- The frames that were ever pushed, the oldest first.
 abbrev pub pushed : Tx → List Frame
 pushed tx = sent tx.ring
 
 -- How many of them the pushing end knows to be taken.
 abbrev pub known_taken : Tx → ℕ
-known_taken tx = length (pushed tx) + known_free tx.ring - 64
+known_taken tx = length (pushed tx) + known_free tx.ring - ring_length
 
 -- The frames that were ever taken from the ring, the oldest first.
 abbrev pub taken : Rx → List Frame

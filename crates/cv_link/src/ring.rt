@@ -60,14 +60,14 @@ impl Pair {
 
 impl Tx {
     ghost use Rattle.std.specs.Prelude.{◌≡◌, ◌+◌, ◌<◌, ◌≤◌, [], ◌∷◌, ◌++◌, length, IsOk, OnOk, IfErr};
-    ghost use Rattle.cv_link.specs.Ring.{pushed, known_taken, SameTx};
+    ghost use Rattle.cv_link.specs.Ring.{pushed, known_taken, ring_length, SameTx};
 
     /// Pushes the frame, or hands it back where 64 frames are in the ring that are not known to be taken.
     pub fn push(&mut self, frame: Frame) -> Result<(), Frame>
         ensures end { SameTx self.old self.new }
         ensures ok { OnOk result (pushed self.new ≡ pushed self.old ++ frame ∷ []) }
-        ensures full { IfErr result (λ back. (back ≡ frame) × (pushed self.new ≡ pushed self.old) × (length (pushed self.new) ≡ known_taken self.new + 64)) }
-        ensures roomy { length (pushed self.old) < known_taken self.old + 64 → IsOk result }
+        ensures full { IfErr result (λ back. (back ≡ frame) × (pushed self.new ≡ pushed self.old) × (length (pushed self.new) ≡ known_taken self.new + ring_length)) }
+        ensures roomy { length (pushed self.old) < known_taken self.old + ring_length → IsOk result }
         ensures known { known_taken self.old ≤ known_taken self.new }
     {
         match self.ring.push(frame) {

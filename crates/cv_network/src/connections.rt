@@ -7,6 +7,7 @@ ghost use Rattle.cv_kinds.specs.Table.{line_of};
 ghost use Rattle.cv_kinds.specs.Wired.{HasInport, HasOutport, HasPorts};
 ghost use Rattle.cv_network.specs.Written.{connection_token, inport_of, inport_token, outport_of, outport_token, port_token};
 ghost use Rattle.cv_token.specs.declared.token.Token.TheVariants as tree;
+ghost use Rattle.cv_kinds.specs.Net.{most_actors};
 
 use cv_kinds::{ActorSpec, Connection, Kind, inport, outport};
 use cv_token::{OutOfMemory, Token};
@@ -18,7 +19,7 @@ pub(crate) fn connections_of(
     actors: &[ActorSpec],
     items: &[Token],
 ) -> Result<Option<Vec<Connection>>, OutOfMemory>
-    ensures { (connections : List Connection) → length actors.now ≤ 256 → All (HasPorts actors.now) connections → items.now ≡ map (connection_token actors.now) connections
+    ensures { (connections : List Connection) → length actors.now ≤ most_actors → All (HasPorts actors.now) connections → items.now ≡ map (connection_token actors.now) connections
         → IfOk result (λ found. MatchOption found ⊥ (λ list. list.items ≡ connections)) }
 {
     let mut connections = Vec::with_capacity(alloc, items.len())?;
@@ -33,7 +34,7 @@ pub(crate) fn connections_of(
 
 /// The connection that has this tree.
 fn connection_of(actors: &[ActorSpec], token: &Token) -> Option<Connection>
-    ensures { (connection : Connection) → length actors.now ≤ 256 → HasPorts actors.now connection → token.now ≡ connection_token actors.now connection → result ≡ Some connection }
+    ensures { (connection : Connection) → length actors.now ≤ most_actors → HasPorts actors.now connection → token.now ≡ connection_token actors.now connection → result ≡ Some connection }
 {
     let Token::List(parts) = token else {
         return None;
@@ -53,7 +54,7 @@ fn connection_with(
     to: &Token,
     inp: &Token,
 ) -> Option<Connection>
-    ensures { (connection : Connection) → length actors.now ≤ 256 → HasPorts actors.now connection → from.now ≡ tree.Int (pos connection.from) → out.now ≡ outport_token actors.now connection
+    ensures { (connection : Connection) → length actors.now ≤ most_actors → HasPorts actors.now connection → from.now ≡ tree.Int (pos connection.from) → out.now ≡ outport_token actors.now connection
         → to.now ≡ tree.Int (pos connection.to) → inp.now ≡ inport_token actors.now connection → result ≡ Some connection }
 {
     let from = read_place(from)?;
@@ -65,7 +66,7 @@ fn connection_with(
 
 /// The place of an actor.
 fn read_place(token: &Token) -> Option<u16>
-    ensures { (place : ℕ) → place ≤ 256 → token.now ≡ tree.Int (pos place) → result ≡ Some place }
+    ensures { (place : ℕ) → place ≤ most_actors → token.now ≡ tree.Int (pos place) → result ≡ Some place }
 {
     match token {
         Token::Int(number) if *number >= 0 && *number <= 256 => Some(*number as u16),

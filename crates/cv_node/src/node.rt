@@ -7,7 +7,7 @@ ghost use Rattle.std.specs.FinMap as map;
 ghost use Rattle.cv_protocol.specs.declared.refusal.StepRefusal.TheVariants as refusal;
 ghost use Rattle.cv_protocol.specs.NodeState.{opening};
 ghost use Rattle.cv_protocol.specs.NodeRow.{cause_of, row};
-ghost use Rattle.cv_protocol.specs.Rows.{is_node};
+ghost use Rattle.cv_protocol.specs.Rows.{is_node, most_nodes, most_window};
 ghost use Rattle.cv_state.specs.Leaving.{frozen_place};
 ghost use Rattle.cv_state.specs.Opening.{opened};
 ghost use Rattle.cv_state.specs.Steps.{LeadsTo, Refuses};
@@ -64,8 +64,8 @@ impl Model for Node {
 impl Node {
     /// A node before its first entry.
     pub fn new(alloc: Global, spec: NodeSpec) -> Result<Node, OutOfMemory>
-        requires number { (1 ≤ spec.no) × (spec.no ≤ 64) }
-        requires window { (1 ≤ spec.window) × (spec.window ≤ 64) }
+        requires number { (1 ≤ spec.no) × (spec.no ≤ most_nodes) }
+        requires window { (1 ≤ spec.window) × (spec.window ≤ most_window) }
         ensures { IfOk result (λ node. node ≡ record { base = opening spec; state = opening spec; entries = []; spare = 0 }) }
     {
         let state = State::new(alloc, spec.copy(alloc)?)?;
@@ -91,9 +91,9 @@ impl Node {
         net: &Network,
         at: &[u16],
     ) -> Result<Node, OutOfMemory>
-        requires number { (1 ≤ spec.no) × (spec.no ≤ 64) }
-        requires window { (1 ≤ spec.window) × (spec.window ≤ 64) }
-        requires app { (app.seq ≡ 1) × (1 ≤ app.node) × (app.node ≤ 64) }
+        requires number { (1 ≤ spec.no) × (spec.no ≤ most_nodes) }
+        requires window { (1 ≤ spec.window) × (spec.window ≤ most_window) }
+        requires app { (app.seq ≡ 1) × (1 ≤ app.node) × (app.node ≤ most_nodes) }
         requires places { length at.now ≡ length net.now.actors }
         requires nodes { list_all is_node at.now ≡ true }
         ensures { IfOk result (λ node. node ≡ record { base = opened spec app net.now at.now; state = opened spec app net.now at.now; entries = []; spare = 0 }) }

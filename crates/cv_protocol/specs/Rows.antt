@@ -95,6 +95,13 @@ tick s now true = Some (becomes (record s { now = now }))
 -- 3. Deploy
 
 -- an application that is deployed here at most so often has a number
+-- nodes have the numbers from 1 to this
+abbrev pub most_nodes : ℕ
+most_nodes = 64
+
+abbrev pub most_window : ℕ
+most_window = 64
+
 abbrev pub most_applications : ℕ
 most_applications = 4096
 

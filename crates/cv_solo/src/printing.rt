@@ -3,6 +3,7 @@
 ghost use Rattle.std.specs.Prelude.{◌≡◌, ◌≤◌, ◌++◌, length, take, map, string_bytes, OnOk, IfOk};
 ghost use Rattle.cv_solo.specs.PrintedText.{taken_at, print_line, print_lines, print_of, prints_from, InPathOrder, IsPrinted};
 ghost use Rattle.cv_solo.specs.Keyed.{keyed};
+ghost use Rattle.cv_kinds.specs.Net.{most_actors};
 
 use crate::solo::{Solo, feeds, first_of};
 use crate::stream::Stream;
@@ -77,7 +78,7 @@ fn push_line(
 
 /// The prints of a network, in the order of their paths' bytes, each with its path.
 fn prints_in_order(alloc: Global, actors: &[ActorSpec]) -> Result<Vec<(String, u16)>, OutOfMemory>
-    requires { length actors.now ≤ 256 }
+    requires { length actors.now ≤ most_actors }
     ensures { IfOk result (λ prints. InPathOrder actors.now (map keyed prints.items)) }
 {
     let mut prints = collected_prints(alloc, actors)?;
@@ -87,7 +88,7 @@ fn prints_in_order(alloc: Global, actors: &[ActorSpec]) -> Result<Vec<(String, u
 
 /// The prints of a network, in the order of the actors.
 fn collected_prints(alloc: Global, actors: &[ActorSpec]) -> Result<Vec<(String, u16)>, OutOfMemory>
-    requires { length actors.now ≤ 256 }
+    requires { length actors.now ≤ most_actors }
     ensures { IfOk result (λ prints. map keyed prints.items ≡ prints_from 0 actors.now) }
 {
     let mut prints = Vec::new(alloc);

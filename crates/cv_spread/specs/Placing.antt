@@ -16,6 +16,10 @@ use Rattle.cv_alone.specs.Resting.{run_app}
 use Rattle.cv_handover.specs.Meaning.{Nets, Meaning}
 use Rattle.cv_handover.specs.Placed.{owner_in, placed_meaning}
 
+-- a run is on nodes 1 to this at most
+abbrev pub most_run_nodes : ℕ
+most_run_nodes = 16
+
 -- 1. The nodes
 
 -- node i: its number, how many actors it takes, how many tokens of a connection may be on their way, and its name

@@ -2,7 +2,7 @@
 
 ghost use Rattle.std.specs.Prelude.{◌≡◌, ◌≤◌, map, IfOk};
 ghost use Rattle.std.specs.List.{range_with_len};
-ghost use Rattle.cv_spread.specs.Placing.{node_spec, node_specs, home_node};
+ghost use Rattle.cv_spread.specs.Placing.{node_spec, node_specs, home_node, most_run_nodes};
 
 use cv_rules::{Attrs, NodeSpec};
 use cv_token::{OutOfMemory, Pair, Text};
@@ -10,7 +10,7 @@ use std::alloc::Global;
 
 /// What the nodes 1 to `nodes` are from the start.
 pub(crate) fn node_specs(alloc: Global, nodes: u16) -> Result<Vec<NodeSpec>, OutOfMemory>
-    requires { nodes ≤ 16 }
+    requires { nodes ≤ most_run_nodes }
     ensures { IfOk result (λ specs. specs.items ≡ node_specs nodes) }
 {
     let mut specs = Vec::new(alloc);
@@ -38,7 +38,7 @@ fn node_spec(alloc: Global, no: u16) -> Result<NodeSpec, OutOfMemory>
 
 /// The node of each of so many actors: they go to the nodes in turn.
 pub(crate) fn places(alloc: Global, nodes: u16, actors: u16) -> Result<Vec<u16>, OutOfMemory>
-    requires { (1 ≤ nodes) × (nodes ≤ 16) }
+    requires { (1 ≤ nodes) × (nodes ≤ most_run_nodes) }
     ensures { IfOk result (λ at. at.items ≡ map (home_node nodes) (range_with_len 0 actors)) }
 {
     let mut at = Vec::new(alloc);

@@ -3,7 +3,7 @@
 ghost use Rattle.std.specs.Prelude.{◌≡◌, ◌≤◌, IfOk};
 ghost use Rattle.cv_kinds.specs.Wired.{IsWired};
 ghost use Rattle.cv_spread.specs.Clusters.{IsRecordFor, opened_cluster};
-ghost use Rattle.cv_spread.specs.Placing.{ItemsFit};
+ghost use Rattle.cv_spread.specs.Placing.{ItemsFit, most_run_nodes};
 ghost use Rattle.cv_spread.specs.Spread.{IsSpreadRun};
 
 use crate::nodes::{node_specs, places};
@@ -29,7 +29,7 @@ pub fn run_spread<R: Threads + Sync, G: Gate>(
     most: u32,
     gate: &G,
 ) -> Result<(RunEnd, Record), OutOfMemory>
-    requires nodes { (2 ≤ nodes) × (nodes ≤ 16) }
+    requires nodes { (2 ≤ nodes) × (nodes ≤ most_run_nodes) }
     requires items { ItemsFit nodes items.items }
     requires wired { IsWired net }
     ensures { IfOk result (λ run. IsSpreadRun net nodes items.items most run.0 run.1) }
@@ -47,7 +47,7 @@ fn open_cluster(
     nodes: u16,
     items: Vec<Item>,
 ) -> Result<Cluster, OutOfMemory>
-    requires nodes { (2 ≤ nodes) × (nodes ≤ 16) }
+    requires nodes { (2 ≤ nodes) × (nodes ≤ most_run_nodes) }
     requires items { ItemsFit nodes items.items }
     ensures { IfOk result (λ c. c ≡ opened_cluster nodes net items.items) }
 {

@@ -9,6 +9,7 @@ ghost use Rattle.cv_protocol.specs.Rows.{all_hinted, deployed_state, most_applic
 ghost use Rattle.cv_protocol.specs.Travel.{first_due};
 ghost use Rattle.cv_state.specs.Deploying.{all_settled, are_due, new_lives};
 ghost use Rattle.cv_state.specs.Steps.{LeadsTo, Refuses};
+ghost use Rattle.cv_kinds.specs.Net.{most_actors, most_connections};
 
 use crate::state::State;
 use cv_actor::{LIMIT, Live};
@@ -44,8 +45,8 @@ fn new_lives(
     connections: &[Connection],
     now: u64,
 ) -> Result<VecDeque<Live>, OutOfMemory>
-    requires few_actors { length actors.now ≤ 256 }
-    requires few_connections { length connections.now ≤ 4096 }
+    requires few_actors { length actors.now ≤ most_actors }
+    requires few_connections { length connections.now ≤ most_connections }
     requires due { are_due now actors.now ≡ true }
     ensures { IfOk result (λ lives. lives.items ≡ new_lives app connections.now now 0 actors.now) }
 {
@@ -62,7 +63,7 @@ fn new_lives(
 
 /// These actors of the application live here, the first one as number 0. There is room for them.
 fn settle(live: &mut ActorTable<Live>, app: AppId, lives: VecDeque<Live>)
-    requires few { length lives.items ≤ 256 }
+    requires few { length lives.items ≤ most_actors }
     requires room { length lives.items ≤ live.old.spare }
     ensures { live.new.map ≡ all_settled app 0 lives.items live.old.map }
 {
@@ -83,7 +84,7 @@ fn settle(live: &mut ActorTable<Live>, app: AppId, lives: VecDeque<Live>)
 
 /// These actors of the application are known to live at this node. There is room for their hints.
 fn hint_all(hints: &mut ActorTable<Location>, app: AppId, node: u16, actors: &[ActorSpec])
-    requires few { length actors.now ≤ 256 }
+    requires few { length actors.now ≤ most_actors }
     requires room { length actors.now ≤ hints.old.spare }
     ensures { hints.new.map ≡ all_hinted app node 0 actors.now hints.old.map }
 {
@@ -132,7 +133,7 @@ impl State {
         net: &Network,
     ) -> Result<(), OutOfMemory>
         requires due { are_due self.old.now net.now.actors ≡ true }
-        requires number { self.old.known.deployed < 4096 }
+        requires number { self.old.known.deployed < most_applications }
         ensures ok { OnOk result (self.new ≡ deployed_state self.old name.now net.now app) }
         ensures err { OnErr result (self.new ≡ self.old) }
     {

@@ -4,9 +4,10 @@ ghost use Rattle.std.specs.Prelude.{◌≡◌, ◌<◌, ◌≤◌, length, slice
 ghost use Rattle.std.specs.Option.{option_copied};
 ghost use Rattle.std.specs.FinMap as map;
 ghost use Rattle.cv_protocol.specs.Deliveries.{outs_noted};
-ghost use Rattle.cv_protocol.specs.Rows.{producers_noted};
+ghost use Rattle.cv_protocol.specs.Rows.{producers_noted, most_applications};
 ghost use Rattle.cv_state.specs.Deploying.{deployed_known, learned};
 ghost use Rattle.cv_state.specs.Opening.{opened_known, own_count};
+ghost use Rattle.cv_kinds.specs.Net.{most_connections};
 
 use crate::noting::{count_readers, note_outs};
 use cv_kinds::{Connection, Network};
@@ -41,7 +42,7 @@ impl Model for Known {
 
 /// The producers of the application's connections are known. There is room for them.
 fn note_producers(producers: &mut ConnTable<ActorId>, app: AppId, connections: &[Connection])
-    requires few { length connections.now ≤ 4096 }
+    requires few { length connections.now ≤ most_connections }
     requires room { length connections.now ≤ producers.old.spare }
     ensures { producers.new.map ≡ producers_noted app 0 connections.now producers.old.map }
 {
@@ -164,7 +165,7 @@ impl Known {
         name: &Text,
         net: &Network,
     ) -> Result<(), OutOfMemory>
-        requires { self.old.deployed < 4096 }
+        requires { self.old.deployed < most_applications }
         ensures ok { OnOk result (self.new ≡ deployed_known self.old app name.now net.now) }
         ensures err { OnErr result (self.new ≡ self.old) }
     {

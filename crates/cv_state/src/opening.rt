@@ -4,6 +4,7 @@ ghost use Rattle.std.specs.Prelude.{◌≡◌, ◌≤◌, true, length, IfOk};
 ghost use Rattle.std.specs.FinMap as map;
 ghost use Rattle.cv_state.specs.Deploying.{are_due};
 ghost use Rattle.cv_state.specs.Opening.{all_located, all_placed, opened};
+ghost use Rattle.cv_kinds.specs.Net.{most_actors};
 
 use crate::deploy::are_due;
 use crate::known::Known;
@@ -45,7 +46,7 @@ fn start_placed(
 
 /// The hint of each actor at its place, by the attempt 0.
 fn hint_homes(alloc: Global, app: AppId, at: &[u16]) -> Result<ActorTable<Location>, OutOfMemory>
-    requires few { length at.now ≤ 256 }
+    requires few { length at.now ≤ most_actors }
     ensures { IfOk result (λ hints. hints.map ≡ all_located app 0 at.now map.empty) }
 {
     let mut hints = ActorTable::new(alloc);

@@ -10,11 +10,15 @@ most_depth = 16
 abbrev pub most_bytes : ℕ
 most_bytes = 1024
 
+-- how deep a JSON text nests at most
+abbrev pub most_json_depth : ℕ
+most_json_depth = 127
+
 -- the tree is a token, and within both bounds
 pub record Fits (t : Token) : Type 0 where
   pub token : is_token t ≡ true
-  pub shallow : depth t ≤ 16
-  pub short : length (spelling t) ≤ 1024
+  pub shallow : depth t ≤ most_depth
+  pub short : length (spelling t) ≤ most_bytes
 
 -- what is left of the room once n is taken, where it is enough
 abbrev pub left : ℕ → ℕ → Option ℕ

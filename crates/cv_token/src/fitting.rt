@@ -2,7 +2,7 @@
 
 ghost use Rattle.std.specs.Prelude.{◌≡◌, ◌==◌, ◌↔◌, ◌&&◌, if◌then◌else◌, ◌≤◌, true, IsTrue, OnSome, length, map};
 ghost use Rattle.std.specs.Bool.{OnTrue};
-ghost use Rattle.cv_token.specs.Bounds.{Fits, left};
+ghost use Rattle.cv_token.specs.Bounds.{Fits, left, most_bytes};
 ghost use Rattle.cv_token.specs.Forms.{on_values};
 ghost use Rattle.cv_token.specs.Shape.{is_token, all_true, all_members, are_rising};
 ghost use Rattle.cv_token.specs.Spelling.{spelling, behind_commas, members};
@@ -28,7 +28,7 @@ pub fn fits(token: &Token) -> bool
 
 /// Whether the compact text has at most 1,024 bytes.
 pub(crate) fn is_short(token: &Token) -> bool
-    ensures short { IsTrue result ↔ (length (spelling token.now) ≤ 1024) }
+    ensures short { IsTrue result ↔ (length (spelling token.now) ≤ most_bytes) }
     ensures known { OnTrue result (is_token token.now ≡ true) }
 {
     left_after(MOST_BYTES, token).is_some()

@@ -4,7 +4,7 @@ ghost use Rattle.std.specs.Prelude.{◌≡◌, ◌≤◌, nat_le, if◌then◌el
 ghost use Rattle.serde_json.specs.Data.{depth as data_depth};
 ghost use Rattle.serde_json.specs.View.{view};
 ghost use Rattle.cv_token.specs.declared.token.Token.{Token};
-ghost use Rattle.cv_token.specs.Bounds.{Fits, most_depth};
+ghost use Rattle.cv_token.specs.Bounds.{Fits, most_depth, most_json_depth};
 ghost use Rattle.cv_token.specs.Reading.{Answers, json_of, reading, short_token, tree_of};
 ghost use Rattle.cv_token.specs.Shape.{depth, is_token};
 ghost use Rattle.cv_token.specs.Spelling.{spelling};
@@ -22,7 +22,7 @@ use std::alloc::{AllocError, Global};
 /// The JSON value of the bytes.
 fn parse(alloc: Global, bytes: &[u8]) -> Result<Value, TokenFault>
     ensures value { Parses result (json_of bytes.now) }
-    ensures nests { IfOk result (λ v. data_depth (view v) ≤ 127) }
+    ensures nests { IfOk result (λ v. data_depth (view v) ≤ most_json_depth) }
 {
     match Value::from_slice(alloc, bytes) {
         Ok(value) => Ok(value),
@@ -79,7 +79,7 @@ pub fn read(alloc: Global, bytes: &[u8]) -> Result<Token, TokenFault>
 
 fn tree(alloc: Global, bytes: &[u8]) -> Result<Token, TokenFault>
     ensures exact { Reads result (tree_of bytes.now) }
-    ensures nests { IfOk result (λ t. depth t ≤ 127) }
+    ensures nests { IfOk result (λ t. depth t ≤ most_json_depth) }
 {
     let value = parse(alloc, bytes)?;
     token_from(alloc, &value)
@@ -93,7 +93,7 @@ pub fn read_tree(alloc: Global, bytes: &[u8]) -> Result<Option<Token>, OutOfMemo
     // A token is read from its text as far as JSON nests.
     ensures again { (token : Token) → IsTree token → bytes.now ≡ spelling token
         → IfOk result (λ tree. tree ≡ Some token) }
-    ensures nests { IfOk result (λ tree. IfSome tree (λ token. depth token ≤ 127)) }
+    ensures nests { IfOk result (λ tree. IfSome tree (λ token. depth token ≤ most_json_depth)) }
 {
     match tree(alloc, bytes) {
         Ok(token) => Ok(Some(token)),

@@ -4,6 +4,7 @@ ghost use Rattle.std.specs.Prelude.{◌≡◌, ◌≤◌, ◌↔◌, true, IfOk,
 ghost use Rattle.cv_token.specs.Reading.{reading, tree_of};
 ghost use Rattle.cv_token.specs.Shape.{depth, is_token};
 ghost use Rattle.cv_token.specs.Spelling.{spelling};
+ghost use Rattle.cv_token.specs.Bounds.{most_bytes, most_depth, most_json_depth};
 
 use crate::token::{OutOfMemory, Token};
 use crate::utf8::Text;
@@ -16,9 +17,9 @@ pub fn text(alloc: Global, token: &Token) -> Result<Text, OutOfMemory>
     ensures spelled { IfOk result (λ t. t ≡ spelling token.now) }
 
     // The text is read as this token: by `read` within its bounds, by `read_tree` as far as JSON nests.
-    ensures read_back { IfOk result (λ t. depth token.now ≤ 16 → length t ≤ 1024
+    ensures read_back { IfOk result (λ t. depth token.now ≤ most_depth → length t ≤ most_bytes
         → reading t ≡ Ok token.now) }
-    ensures tree_back { IfOk result (λ t. depth token.now ≤ 127 → tree_of t ≡ Some token.now) }
+    ensures tree_back { IfOk result (λ t. depth token.now ≤ most_json_depth → tree_of t ≡ Some token.now) }
     ensures known { OnOk result (is_token token.now ≡ true) }
 {
     let text = value_of(alloc, token)?.to_string(alloc)?;

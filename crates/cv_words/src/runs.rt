@@ -3,7 +3,7 @@
 ghost use Rattle.std.specs.Prelude.{◌≡◌, ◌≤◌, All, length, map, option_map, string_bytes, IfSome};
 ghost use Rattle.cv_words.specs.Asked.{items_behind, run_of, run_with, set_once, set_twice};
 ghost use Rattle.cv_words.specs.Items.{items_of, stray_in, IsProper};
-ghost use Rattle.cv_words.specs.Runs.{IsSetting};
+ghost use Rattle.cv_words.specs.Runs.{IsSetting, most_items, most_run_nodes};
 
 use crate::items::{LinkItem, Stray, read_item};
 use crate::options::{Setting, read_option};
@@ -69,7 +69,7 @@ impl RunWords {
 
 /// The first item that names a node above so many, with its place.
 fn first_stray(nodes: u16, items: &[LinkItem]) -> Option<Stray>
-    requires { length items.now ≤ 64 }
+    requires { length items.now ≤ most_items }
     ensures { result ≡ stray_in nodes items.now }
 {
     let mut place = 0;
@@ -140,7 +140,7 @@ fn items_behind(words: &[String]) -> &[String]
 /// A run with these options, where they stand, and these items.
 fn run_with(nodes: Option<u16>, firings: Option<u32>, words: &[String]) -> Option<RunWords>
     requires some { IfSome nodes (λ n. 1 ≤ n) }
-    requires few { IfSome nodes (λ n. n ≤ 16) }
+    requires few { IfSome nodes (λ n. n ≤ most_run_nodes) }
     ensures { result ≡ run_with nodes firings (map string_bytes words.now) }
 {
     if words.len() > MOST_ITEMS {
@@ -156,9 +156,9 @@ fn run_with(nodes: Option<u16>, firings: Option<u32>, words: &[String]) -> Optio
 
 /// The items that words say, where each says one.
 fn read_items(words: &[String]) -> Option<ArrayVec<LinkItem, 64>>
-    requires { length words.now ≤ 64 }
+    requires { length words.now ≤ most_items }
     ensures items { option_map (λ v. v.items) result ≡ items_of (map string_bytes words.now) }
-    ensures few { IfSome result (λ v. length v.items ≤ 64) }
+    ensures few { IfSome result (λ v. length v.items ≤ most_items) }
     ensures proper { IfSome result (λ v. All IsProper v.items) }
 {
     let mut items = ArrayVec::new();

@@ -1,20 +1,20 @@
 //! The pieces of the text: a word with its space, and a text in quotes.
 
-ghost use Rattle.std.specs.Prelude.{◌≡◌, ◌++◌, [], ◌∷◌, string_bytes, OnOk, encode_utf8};
+ghost use Rattle.std.specs.Prelude.{◌≡◌, ◌++◌, [], ◌∷◌, string_bytes, OnOk, encode_utf8, codes};
 ghost use Rattle.cv_writing.specs.Written.{escaped, quoted};
 
 use cv_token::OutOfMemory;
 
 /// The space behind a word.
 pub(crate) fn push_space(out: &mut String) -> Result<(), OutOfMemory>
-    ensures { OnOk result (string_bytes out.new ≡ string_bytes out.old ++ 32 ∷ []) }
+    ensures { OnOk result (string_bytes out.new ≡ string_bytes out.old ++ codes " ") }
 {
     out.push(' ')
 }
 
 /// A word as it stands, and the space behind it.
 pub(crate) fn push_word(out: &mut String, word: &str) -> Result<(), OutOfMemory>
-    ensures { OnOk result (string_bytes out.new ≡ string_bytes out.old ++ (word.now ++ 32 ∷ [])) }
+    ensures { OnOk result (string_bytes out.new ≡ string_bytes out.old ++ (word.now ++ codes " ")) }
 {
     out.push_str(word)?;
     push_space(out)
