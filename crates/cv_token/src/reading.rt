@@ -1,12 +1,12 @@
 //! Reading a token from JSON.
 
-ghost use Rattle.std.specs.Prelude.{◌≡◌, ◌≤◌, nat_le, if◌then◌else◌, true, Ok, Err, Some, IfOk, IfSome};
+ghost use Rattle.std.specs.Prelude.{◌≡◌, ◌≤◌, nat_le, if◌then◌else◌, Ok, Err, Some, IfOk, OnOk, IfSome};
 ghost use Rattle.serde_json.specs.Data.{depth as data_depth};
 ghost use Rattle.serde_json.specs.View.{view};
 ghost use Rattle.cv_token.specs.declared.token.Token.{Token};
 ghost use Rattle.cv_token.specs.Bounds.{Fits, most_depth, most_json_depth};
 ghost use Rattle.cv_token.specs.Reading.{Answers, json_of, reading, short_token, tree_of};
-ghost use Rattle.cv_token.specs.Shape.{depth, is_token};
+ghost use Rattle.cv_token.specs.Shape.{depth};
 ghost use Rattle.cv_token.specs.Spelling.{spelling};
 ghost use Rattle.cv_token.specs.Spells.{IsTree, Spells};
 ghost use Rattle.cv_token.specs.Taken.{Parses, Reads};
@@ -35,7 +35,8 @@ fn parse(alloc: Global, bytes: &[u8]) -> Result<Value, TokenFault>
 
 /// Refuses what nests over 16 deep. No memory is taken, so want of it is no answer.
 fn check_depth(value: &Value) -> Result<(), TokenFault>
-    ensures { result ≡ (if nat_le (data_depth (view value.now)) most_depth then Ok tt else Err TokenFault.TooDeep) }
+    ensures exact { result ≡ (if nat_le (data_depth (view value.now)) most_depth then Ok tt else Err TokenFault.TooDeep) }
+    ensures shallow { OnOk result (data_depth (view value.now) ≤ most_depth) }
 {
     if !value_within(value, MOST_DEPTH) {
         return Err(TokenFault::TooDeep);
@@ -46,7 +47,7 @@ fn check_depth(value: &Value) -> Result<(), TokenFault>
 /// Refuses what has over 1,024 bytes as text. No memory is taken, so want of it is no answer.
 fn check_size(token: Token) -> Result<Token, TokenFault>
     ensures exact { result ≡ short_token token }
-    ensures known { IfOk result (λ _. is_token token ≡ true) }
+    ensures within { depth token ≤ most_depth → IfOk result Fits }
 {
     if !is_short(&token) {
         return Err(TokenFault::TooLarge);
@@ -60,7 +61,8 @@ fn read_within(alloc: Global, bytes: &[u8]) -> Result<Token, TokenFault>
 {
     let value = parse(alloc, bytes)?;
     check_depth(&value)?;
-    check_size(token_from(alloc, &value)?)
+    let token = token_from(alloc, &value)?;
+    check_size(token)
 }
 
 /// The token of a JSON text. Of equal keys the last counts. Of several faults the first of

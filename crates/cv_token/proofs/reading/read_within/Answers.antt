@@ -1,4 +1,4 @@
-use Rattle.std.proofs.Common.{◌≡◌, ◌≤◌, refl, arith}
+use Rattle.std.proofs.Common.{◌≡◌, ◌≤◌, arith}
 use Rattle.serde_json.specs.Data.{depth as data_depth}
 use Rattle.serde_json.specs.View.{view}
 use Rattle.cv_token.specs.Shape.{depth}
@@ -10,5 +10,5 @@ returns-clause-within c =
     let d = view c.in_ok-value.value in
     let t = c.in_ok-token.token in
     let same : depth t ≡ data_depth d = depth-token_of d t c.in_ok-token.ensures in
-    let deep : data_depth d ≤ 16 = c.if-not-value_within.ensures.0 refl in
-    record { token = c.if-not-is_short.ensures.known; shallow = omega arith; short = c.if-not-is_short.ensures.short.0 refl }
+    let deep : data_depth d ≤ 16 = c.in_ok-check_depth.ensures.shallow in
+    c.check_size.ensures.within (omega arith)
