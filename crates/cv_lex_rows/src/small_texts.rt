@@ -6,6 +6,30 @@ use std::fmt::Write;
 use std::process::Abort;
 use std::test::Fail;
 
+/// The letter of a sort of lexemes.
+fn letter(sort: Sort) -> &'static str {
+    match sort {
+        Sort::Name => "n",
+        Sort::Int => "i",
+        Sort::Fraction => "f",
+        Sort::Text => "t",
+        Sort::Mark => "m",
+    }
+}
+
+/// A fault's name and place.
+fn fault_at(fault: LexFault) -> (&'static str, u32) {
+    match fault {
+        LexFault::BadChar { at } => ("BadChar", at),
+        LexFault::OpenText { at } => ("OpenText", at),
+        LexFault::OpenComment { at } => ("OpenComment", at),
+        LexFault::WideNumber { at } => ("WideNumber", at),
+        LexFault::BadEscape { at } => ("BadEscape", at),
+        LexFault::LongName { at } => ("LongName", at),
+        LexFault::OutOfMemory => ("OutOfMemory", 0),
+    }
+}
+
 /// Lexemes as a letter, a place and a length; a fault by its name and place.
 fn shown(rt: &impl Abort, alloc: Global, source: &str) -> Result<String, AllocError> {
     assert!(rt; source.len() < 1000);
@@ -13,25 +37,13 @@ fn shown(rt: &impl Abort, alloc: Global, source: &str) -> Result<String, AllocEr
     match lex(alloc, source) {
         Ok(found) => {
             for lexeme in &found {
-                let sort = match lexeme.sort {
-                    Sort::Name => "n",
-                    Sort::Int => "i",
-                    Sort::Fraction => "f",
-                    Sort::Text => "t",
-                    Sort::Mark => "m",
-                };
-                let at = lexeme.at;
-                let len = lexeme.len;
-                write!(text, "{sort}{at}+{len} ")?;
+                write!(text, "{}{}+{} ", letter(lexeme.sort), lexeme.at, lexeme.len)?;
             }
         }
-        Err(LexFault::BadChar { at }) => write!(text, "BadChar {at}")?,
-        Err(LexFault::OpenText { at }) => write!(text, "OpenText {at}")?,
-        Err(LexFault::OpenComment { at }) => write!(text, "OpenComment {at}")?,
-        Err(LexFault::WideNumber { at }) => write!(text, "WideNumber {at}")?,
-        Err(LexFault::BadEscape { at }) => write!(text, "BadEscape {at}")?,
-        Err(LexFault::LongName { at }) => write!(text, "LongName {at}")?,
-        Err(LexFault::OutOfMemory) => write!(text, "OutOfMemory")?,
+        Err(fault) => {
+            let (name, at) = fault_at(fault);
+            write!(text, "{name} {at}")?;
+        }
     }
     Ok(text)
 }
@@ -158,26 +170,34 @@ fn first_faults(rt: HostRuntime) -> Result<(), Fail> {
     Ok(())
 }
 
+/// What a word is, and what it says; of a number nothing.
+fn parts(word: &Word) -> (&'static str, &str) {
+    match word {
+        Word::Name(name) => ("name ", name.as_str()),
+        Word::Reserved(Reserved::Rule) => ("rule", ""),
+        Word::Reserved(Reserved::True) => ("true", ""),
+        Word::Reserved(_) => ("reserved", ""),
+        Word::Int(_) => ("int", ""),
+        Word::Fraction(digits) => ("fraction ", digits.as_str()),
+        Word::Text(said) => ("text ", said.as_str()),
+        Word::Mark(Mark::Arrow) => ("arrow", ""),
+        Word::Mark(Mark::Greater) => ("greater", ""),
+        Word::Mark(_) => ("mark", ""),
+    }
+}
+
 /// Words in letters, each with its place.
 fn told(rt: &impl Abort, alloc: Global, source: &str) -> Result<String, Fail> {
     assert!(rt; source.len() < 1000);
     let found = lex(alloc, source)?;
     let mut text = String::new(alloc);
     for placed in &words(alloc, source, &found)? {
-        let at = placed.at;
-        match &placed.word {
-            Word::Name(name) => write!(text, "name {}", name.as_str())?,
-            Word::Reserved(Reserved::Rule) => write!(text, "rule")?,
-            Word::Reserved(Reserved::True) => write!(text, "true")?,
-            Word::Reserved(_) => write!(text, "reserved")?,
-            Word::Int(number) => write!(text, "int {number}")?,
-            Word::Fraction(digits) => write!(text, "fraction {}", digits.as_str())?,
-            Word::Text(said) => write!(text, "text {}", said.as_str())?,
-            Word::Mark(Mark::Arrow) => write!(text, "arrow")?,
-            Word::Mark(Mark::Greater) => write!(text, "greater")?,
-            Word::Mark(_) => write!(text, "mark")?,
+        let (kind, said) = parts(&placed.word);
+        write!(text, "{kind}{said}")?;
+        if let Word::Int(number) = &placed.word {
+            write!(text, " {number}")?;
         }
-        write!(text, " at {at}, ")?;
+        write!(text, " at {}, ", placed.at)?;
     }
     Ok(text)
 }
