@@ -30,8 +30,8 @@ ways_of-requires-clause-small c = λ w p among is less.
     let below : p.place < length c.args.parts.now.actors = omega (arith, less, c.len.ensures) in
     small_sources c.args.parts.now c.in_ok-joined.joined.wires.items w p c.in_ok-joined.ensures.wires (subst (λ (ws : List Wire). Among ws w) c.as_slice-wires.ensures.value among) is below
 
-pub followed-ends-requires : goal.followed-ends-requires
-followed-ends-requires c =
+pub follow_all-ends-requires : goal.follow_all-ends-requires
+follow_all-ends-requires c =
     let parts = c.args.parts.now in
     let feeders = c.in_ok-joined.joined.feeders in
     let wires = c.in_ok-joined.joined.wires.items in

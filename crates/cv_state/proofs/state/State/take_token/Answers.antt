@@ -60,4 +60,4 @@ returns-clause-done c =
     let answers = c.on_token-answer.ensures.answer ∙ ap (answer_of port n) token in
     let fits = c.if-not-fits_offer.ensures.value t ∙ ap (λ (q : InView). nat_lt (received (after_offer q n t)) limit) (first ∙ sym is) in
     let next : NodeState = record s { live = map.insert s.live a (with_inport l inp c.on_token-answer.new.inp) } in
-    subst (λ (s : NodeState). Does (token_comes s c.args.stamp c.args.sender c.args.conn a n t (map.get s.live a)) next c.one.result) c.self.view_is (offered s c.args.stamp c.args.sender c.args.conn a n t l inp h port c.on_token-answer.new.inp ends c.on_token-answer.result c.told.result c.one.result c.in-Some-get_mut.ensures.value is connections after answers c.told.ensures c.one.ensures fits)
+    subst (λ (s : NodeState). Does (token_comes s c.args.stamp c.args.sender c.args.conn a n t (map.get s.live a)) next c.one.result) c.self.view_is (offered s c.args.stamp c.args.sender c.args.conn a n t l inp h port c.on_token-answer.new.inp ends c.on_token-answer.result c.answer_body.result c.one.result c.in-Some-get_mut.ensures.value is connections after answers c.answer_body.ensures c.one.ensures fits)
