@@ -1,7 +1,7 @@
 //! Ten requests behind each other, cut in many ways.
 
 use super::{Reading, fed};
-use cv_http::{Feed, HttpFault};
+use cv_http::{Feed, HttpFault, Request};
 use std::test::Fail;
 
 const STREAM: &str = "GET /actors HTTP/1.1\r\nHost: x\r\n\r\n\
@@ -34,13 +34,18 @@ const REQUESTS: [(&str, &str, &str, bool); 10] = [
     ("GET", "/last?a=b", "", false),
 ];
 
+fn is_request(request: &Request, row: (&str, &str, &str, bool)) -> bool {
+    let (method, path, body, close) = row;
+    request.method.as_str() == method
+        && request.path.as_str() == path
+        && request.body.as_slice() == body.as_bytes()
+        && request.close == close
+}
+
 fn are_all(read: &Reading) -> bool {
     let mut same = read.requests.len() == REQUESTS.len() && read.empty && read.fault.is_none();
-    for (request, (method, path, body, close)) in read.requests.iter().zip(REQUESTS.iter()) {
-        same &= request.method.as_str() == *method
-            && request.path.as_str() == *path
-            && request.body.as_slice() == body.as_bytes()
-            && request.close == *close;
+    for (request, row) in read.requests.iter().zip(REQUESTS.iter()) {
+        same &= is_request(request, *row);
     }
     same
 }

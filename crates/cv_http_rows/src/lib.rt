@@ -24,10 +24,10 @@ pub struct Reading {
 
 fn take_all(feed: &mut Feed, requests: &mut Vec<Request>) -> Result<(), AllocError> {
     for _ in 0..u16::MAX {
-        match feed.take() {
-            Some(request) => requests.push(request)?,
-            None => break,
-        }
+        let Some(request) = feed.take() else {
+            return Ok(());
+        };
+        requests.push(request)?;
     }
     Ok(())
 }
