@@ -23,6 +23,15 @@ fn is_printed(rt: &impl Abort, alloc: Global, source: &str, expected: &str) -> R
     Ok(text.as_str() == expected && again.as_str() == expected)
 }
 
+/// Checks how each source is printed.
+fn check_rows(rt: &impl Abort, alloc: Global, rows: &[(&str, &str)]) -> Result<(), Fail> {
+    for row in rows {
+        let (source, expected) = *row;
+        assert!(rt; is_printed(rt, alloc, source, expected)?, "{source}");
+    }
+    Ok(())
+}
+
 #[test]
 fn ramp_component(rt: HostRuntime) -> Result<(), Fail> {
     let source =
@@ -57,11 +66,7 @@ fn literals(rt: HostRuntime) -> Result<(), Fail> {
         ),
         ("a : A(x=-00.50, y=b)", "a : A ( x = -00.50 , y = b ) "),
     ];
-    for row in rows {
-        let (source, expected) = row;
-        assert!(rt; is_printed(&rt, rt.alloc(), source, expected)?, "{source}");
-    }
-    Ok(())
+    check_rows(&rt, rt.alloc(), &rows)
 }
 
 #[test]
@@ -91,9 +96,5 @@ fn sentences(rt: HostRuntime) -> Result<(), Fail> {
         ),
         ("define X=0.5 define Y=X", "define X = 0.5 define Y = X "),
     ];
-    for row in rows {
-        let (source, expected) = row;
-        assert!(rt; is_printed(&rt, rt.alloc(), source, expected)?, "{source}");
-    }
-    Ok(())
+    check_rows(&rt, rt.alloc(), &rows)
 }

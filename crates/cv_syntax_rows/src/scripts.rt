@@ -3,25 +3,37 @@
 use cv_lex::lex;
 use cv_syntax::{ParseFault, parse};
 use std::alloc::Global;
-use std::fmt::Write;
 use std::process::Abort;
 use std::test::Fail;
+
+/// A fault's name and place.
+fn fault_at(fault: ParseFault) -> (&'static str, u32) {
+    match fault {
+        ParseFault::Unexpected { at } => ("Unexpected", at),
+        ParseFault::TooDeep { at } => ("TooDeep", at),
+        ParseFault::OutOfMemory => ("OutOfMemory", 0),
+    }
+}
 
 /// How many items there are, or the fault by its name and place.
 fn shown(rt: &impl Abort, alloc: Global, source: &str) -> Result<String, Fail> {
     assert!(rt; source.len() < 1000);
     let found = lex(alloc, source)?;
-    let mut text = String::new(alloc);
-    match parse(alloc, source, &found) {
-        Ok(script) => {
-            let count = script.items.len();
-            write!(text, "{count} items")?;
-        }
-        Err(ParseFault::Unexpected { at }) => write!(text, "Unexpected {at}")?,
-        Err(ParseFault::TooDeep { at }) => write!(text, "TooDeep {at}")?,
-        Err(ParseFault::OutOfMemory) => write!(text, "OutOfMemory")?,
+    let fault = match parse(alloc, source, &found) {
+        Ok(script) => return Ok(format!(in alloc; "{} items", script.items.len())?),
+        Err(fault) => fault,
+    };
+    let (name, at) = fault_at(fault);
+    Ok(format!(in alloc; "{name} {at}")?)
+}
+
+/// Checks what each source shows.
+fn check_rows(rt: &impl Abort, alloc: Global, rows: &[(&str, &str)]) -> Result<(), Fail> {
+    for row in rows {
+        let (source, expected) = *row;
+        assert_eq!(rt; shown(rt, alloc, source)?.as_str(), expected);
     }
-    Ok(text)
+    Ok(())
 }
 
 #[test]
@@ -46,11 +58,7 @@ fn joins_and_ends(rt: HostRuntime) -> Result<(), Fail> {
         (". > a.b", "Unexpected 2"),
         ("a.b.c > d.e", "Unexpected 3"),
     ];
-    for row in rows {
-        let (source, expected) = row;
-        assert_eq!(rt; shown(&rt, rt.alloc(), source)?.as_str(), expected);
-    }
-    Ok(())
+    check_rows(&rt, rt.alloc(), &rows)
 }
 
 #[test]
@@ -75,11 +83,7 @@ fn ends_and_arguments(rt: HostRuntime) -> Result<(), Fail> {
         ("a : A(x={})", "1 items"),
         ("a : A(x={\"k\":1,\"k\":2})", "1 items"),
     ];
-    for row in rows {
-        let (source, expected) = row;
-        assert_eq!(rt; shown(&rt, rt.alloc(), source)?.as_str(), expected);
-    }
-    Ok(())
+    check_rows(&rt, rt.alloc(), &rows)
 }
 
 #[test]
@@ -101,11 +105,7 @@ fn literals_and_constants(rt: HostRuntime) -> Result<(), Fail> {
             "1 items",
         ),
     ];
-    for row in rows {
-        let (source, expected) = row;
-        assert_eq!(rt; shown(&rt, rt.alloc(), source)?.as_str(), expected);
-    }
-    Ok(())
+    check_rows(&rt, rt.alloc(), &rows)
 }
 
 #[test]
@@ -130,11 +130,7 @@ fn components_and_rules(rt: HostRuntime) -> Result<(), Fail> {
         ),
         ("rule r : node_attr_match(index=[\"g\", {}])", "1 items"),
     ];
-    for row in rows {
-        let (source, expected) = row;
-        assert_eq!(rt; shown(&rt, rt.alloc(), source)?.as_str(), expected);
-    }
-    Ok(())
+    check_rows(&rt, rt.alloc(), &rows)
 }
 
 #[test]
@@ -150,11 +146,7 @@ fn matches_and_applies(rt: HostRuntime) -> Result<(), Fail> {
         ("[[[[[[[[[[[[[[[[]]]]]]]]]]]]]]]] > a.b", "1 items"),
         ("[[[[[[[[[[[[[[[[[]]]]]]]]]]]]]]]]] > a.b", "TooDeep 16"),
     ];
-    for row in rows {
-        let (source, expected) = row;
-        assert_eq!(rt; shown(&rt, rt.alloc(), source)?.as_str(), expected);
-    }
-    Ok(())
+    check_rows(&rt, rt.alloc(), &rows)
 }
 
 #[test]
@@ -175,11 +167,7 @@ fn levels(rt: HostRuntime) -> Result<(), Fail> {
         ),
         ("rule r : ~~~~~~~~~~~~~~~~node_attr_match(", "TooDeep 40"),
     ];
-    for row in rows {
-        let (source, expected) = row;
-        assert_eq!(rt; shown(&rt, rt.alloc(), source)?.as_str(), expected);
-    }
-    Ok(())
+    check_rows(&rt, rt.alloc(), &rows)
 }
 
 #[test]
@@ -192,9 +180,5 @@ fn names(rt: HostRuntime) -> Result<(), Fail> {
         ("a.b > c.d e.f > g.h", "2 items"),
         ("null > a.b", "1 items"),
     ];
-    for row in rows {
-        let (source, expected) = row;
-        assert_eq!(rt; shown(&rt, rt.alloc(), source)?.as_str(), expected);
-    }
-    Ok(())
+    check_rows(&rt, rt.alloc(), &rows)
 }
