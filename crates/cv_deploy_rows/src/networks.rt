@@ -1,6 +1,6 @@
 //! Networks worked out by hand.
 
-use crate::compiled::compiled;
+use crate::compiled::check_rows;
 use std::test::Fail;
 
 #[test]
@@ -41,9 +41,5 @@ fn networks_of_scripts(rt: HostRuntime) -> Result<(), Fail> {
             r##"{"actors":[["r/c","std.CountTimer",[500,1,3],null],["r/m","math.Multiply",[],null],["r/#1","std.Constant",[10,-1],null],["snk","io.Print",[],null]],"connections":[[0,"integer",1,"a"],[2,"token",1,"b"],[1,"result",3,"token"]]}"##,
         ),
     ];
-    for (source, text) in rows {
-        let found = compiled(&rt, rt.alloc(), source)?;
-        assert_eq!(rt; found.as_str(), text);
-    }
-    Ok(())
+    check_rows(&rt, rt.alloc(), &rows)
 }

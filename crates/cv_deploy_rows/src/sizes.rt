@@ -2,13 +2,12 @@
 
 use crate::compiled::compiled;
 use cv_deploy::compile;
-use std::alloc::Global;
+use std::alloc::{AllocError, Global};
 use std::fmt::Write;
 use std::test::Fail;
 
-/// Fifteen ways through 130 components one after another, by 3,915 joins.
-fn long_script(alloc: Global) -> Result<String, Fail> {
-    let mut text = String::new(alloc);
+/// A component with fifteen ways through it.
+fn push_component(text: &mut String) -> Result<(), AllocError> {
     text.push_str("component P() i0")?;
     for port in 1..15 {
         write!(text, ", i{port}")?;
@@ -21,23 +20,21 @@ fn long_script(alloc: Global) -> Result<String, Fail> {
     for port in 0..15 {
         write!(text, ".i{port} > .o{port}\n")?;
     }
-    text.push_str("}\n")?;
+    text.push_str("}\n")
+}
+
+/// A source and a sink for each way, and the joins to the first component and from the last.
+fn push_ends(text: &mut String) -> Result<(), AllocError> {
     for port in 0..15 {
         write!(text, "s{port} : std.Counter()\nk{port} : io.Print()\n")?;
-        write!(
-            text,
-            "s{port}.integer > p0.i{port}\np129.o{port} > k{port}.token\n"
-        )?;
+        write!(text, "s{port}.integer > p0.i{port}\n")?;
+        write!(text, "p129.o{port} > k{port}.token\n")?;
     }
-    text.push_str("p0 : P()\n")?;
-    for place in 1..130 {
-        write!(text, "p{place} : P()\n")?;
-    }
-    Ok(text)
+    Ok(())
 }
 
 /// The joins from each of the components to the next.
-fn push_links(text: &mut String) -> Result<(), Fail> {
+fn push_links(text: &mut String) -> Result<(), AllocError> {
     for before in 0..129_u32 {
         let place = before.saturating_add(1);
         for port in 0..15 {
@@ -47,10 +44,21 @@ fn push_links(text: &mut String) -> Result<(), Fail> {
     Ok(())
 }
 
+/// Fifteen ways through 130 components one after another, by 3,915 joins.
+fn long_script(alloc: Global) -> Result<String, AllocError> {
+    let mut text = String::new(alloc);
+    push_component(&mut text)?;
+    push_ends(&mut text)?;
+    for place in 0..130 {
+        write!(text, "p{place} : P()\n")?;
+    }
+    push_links(&mut text)?;
+    Ok(text)
+}
+
 #[test]
 fn a_long_script(rt: HostRuntime) -> Result<(), Fail> {
-    let mut text = long_script(rt.alloc())?;
-    push_links(&mut text)?;
+    let text = long_script(rt.alloc())?;
     assert!(rt; text.len() < 1_000_000);
     let Ok(net) = compile(rt.alloc(), text.as_bytes()) else {
         let none = compiled(&rt, rt.alloc(), text.as_str())?;
@@ -63,7 +71,7 @@ fn a_long_script(rt: HostRuntime) -> Result<(), Fail> {
 }
 
 /// A way through components that stand sixteen deep.
-fn deep_script(alloc: Global) -> Result<String, Fail> {
+fn deep_script(alloc: Global) -> Result<String, AllocError> {
     let mut text = String::new(alloc);
     for depth in 1..16 {
         let inner = depth + 1;
