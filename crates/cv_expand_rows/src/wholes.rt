@@ -2,9 +2,9 @@
 
 use crate::listing::{expanded, write_actor, write_feed, write_instance};
 use cv_expand::path::copy_path;
-use cv_expand::{Named, Step, path_text};
+use cv_expand::{Named, Parts, Path, Step, path_text};
 use cv_token::Text;
-use std::alloc::Global;
+use std::alloc::{AllocError, Global};
 use std::process::Abort;
 use std::test::Fail;
 
@@ -42,10 +42,8 @@ a: .in > voidport\n\
 c: .in > voidport\n\
 : voidport > a.in\n";
 
-/// The parts of a script without a fault, a line each.
-fn listing(rt: &impl Abort, alloc: Global, source: &str) -> Result<String, Fail> {
-    let flat = expanded(rt, alloc, source)??;
-    let parts = flat.parts();
+/// A line for each part.
+fn lines(alloc: Global, parts: &Parts) -> Result<String, AllocError> {
     let mut text = String::new(alloc);
     for actor in parts.actors.as_slice() {
         write_actor(&mut text, actor)?;
@@ -57,6 +55,12 @@ fn listing(rt: &impl Abort, alloc: Global, source: &str) -> Result<String, Fail>
         write_feed(&mut text, feed)?;
     }
     Ok(text)
+}
+
+/// The parts of a script without a fault, a line each.
+fn listing(rt: &impl Abort, alloc: Global, source: &str) -> Result<String, Fail> {
+    let flat = expanded(rt, alloc, source)??;
+    Ok(lines(alloc, flat.parts())?)
 }
 
 #[test]
@@ -81,24 +85,39 @@ fn scripts_are_expanded(rt: HostRuntime) -> Result<(), Fail> {
     Ok(())
 }
 
-#[test]
-fn names_and_paths(rt: HostRuntime) -> Result<(), Fail> {
-    let alloc = rt.alloc();
-    let flat = expanded(&rt, alloc, "component A() -> { 1 > b.c }\na : A()")??;
+/// The path of the script's first actor.
+fn first_path(rt: &impl Abort, alloc: Global, source: &str) -> Result<Path, Fail> {
+    let flat = expanded(rt, alloc, source)??;
     let Some(actor) = flat.parts().actors.get(0) else {
         return Err(Fail::new("nothing there"));
     };
-    let path = copy_path(alloc, &actor.path)?;
+    Ok(copy_path(alloc, &actor.path)?)
+}
+
+/// The number of a constant's step.
+fn number_of(step: &Step) -> Option<usize> {
+    match step {
+        Step::Name(_) => None,
+        Step::Constant(number) => Some(*number),
+    }
+}
+
+#[test]
+fn paths_are_copied(rt: HostRuntime) -> Result<(), Fail> {
+    let alloc = rt.alloc();
+    let path = first_path(&rt, alloc, "component A() -> { 1 > b.c }\na : A()")?;
     assert_eq!(rt; path.len(), 2);
     assert_eq!(rt; path_text(alloc, path.as_slice())?.as_str(), "a/#1");
     let Some(last) = path.get(1) else {
         return Err(Fail::new("nothing there"));
     };
-    let copy = last.copy(alloc)?;
-    let Step::Constant(number) = &copy else {
-        return Err(Fail::new("no constant"));
-    };
-    assert_eq!(rt; *number, 1);
+    assert_eq!(rt; number_of(&last.copy(alloc)?), Some(1));
+    Ok(())
+}
+
+#[test]
+fn names_have_values(rt: HostRuntime) -> Result<(), Fail> {
+    let alloc = rt.alloc();
     let key = Text::from_string(String::from_str(alloc, "a")?);
     let named = Named::new(alloc).with(alloc, key, 5_u32)?;
     assert!(rt; named.has("a"));
