@@ -1,7 +1,9 @@
 //! Texts at the bounds of depth and size, and which fault comes first.
 
-use super::outcomes::{outcome, repeated, tree_outcome, wrapped};
+use super::outcomes::{is_no_json, outcome, reads_as, repeated, tree_reads_as, wrapped};
 use cv_token::{fits, read_tree};
+use std::alloc::{AllocError, Global};
+use std::process::Abort;
 use std::test::Fail;
 
 #[test]
@@ -16,24 +18,15 @@ fn nests_as_deep_as_allowed(rt: HostRuntime) -> Result<(), Fail> {
         ("{\"a\":", "1", "}", 127, false, true),
     ] {
         let written = wrapped(rt.alloc(), open, middle, close, count)?;
-        let shown = if want { written.as_str() } else { "TooDeep" };
-        assert_eq!(rt; outcome(rt.alloc(), written.as_bytes())?.as_str(), shown);
-        let shown = if tree { written.as_str() } else { "None" };
-        assert_eq!(rt;
-            tree_outcome(rt.alloc(), written.as_bytes())?.as_str(),
-            shown
-        );
+        let (bytes, written) = (written.as_bytes(), written.as_str());
+        let shown = if want { written } else { "TooDeep" };
+        reads_as(&rt, rt.alloc(), bytes, shown)?;
+        let shown = if tree { written } else { "None" };
+        tree_reads_as(&rt, rt.alloc(), bytes, shown)?;
     }
     for (open, close) in [("[", "]"), ("{\"a\":[", "]}")] {
         let written = wrapped(rt.alloc(), open, "", close, 128)?;
-        assert_eq!(rt;
-            outcome(rt.alloc(), written.as_bytes())?.as_str(),
-            "NotJson"
-        );
-        assert_eq!(rt;
-            tree_outcome(rt.alloc(), written.as_bytes())?.as_str(),
-            "None"
-        );
+        is_no_json(&rt, rt.alloc(), written.as_bytes())?;
     }
     Ok(())
 }
@@ -55,38 +48,55 @@ fn is_as_large_as_allowed(rt: HostRuntime) -> Result<(), Fail> {
         ("{\"\":0", ",\"k\":{}", 1, "}", true),
     ] {
         let written = repeated(rt.alloc(), front, part, count, back)?;
-        let want = if fitting {
-            written.as_str()
-        } else {
-            "TooLarge"
-        };
-        assert_eq!(rt; outcome(rt.alloc(), written.as_bytes())?.as_str(), want);
-        assert_eq!(rt;
-            tree_outcome(rt.alloc(), written.as_bytes())?.as_str(),
-            written.as_str()
-        );
-        let token = read_tree(rt.alloc(), written.as_bytes())?.ok_or("a tree")?;
-        assert_eq!(rt; fits(&token), fitting);
+        let (bytes, written) = (written.as_bytes(), written.as_str());
+        let shown = if fitting { written } else { "TooLarge" };
+        assert_eq!(rt; outcome(rt.alloc(), bytes)?.as_str(), shown);
+        tree_reads_as(&rt, rt.alloc(), bytes, written)?;
+        assert_eq!(rt; tree_fits(rt.alloc(), bytes)?, fitting);
     }
     Ok(())
+}
+
+/// Whether the token of the bytes fits.
+fn tree_fits(alloc: Global, bytes: &[u8]) -> Result<bool, Fail> {
+    let token = read_tree(alloc, bytes)?.ok_or("a tree")?;
+    Ok(fits(&token))
+}
+
+/// 17 lists, one in another, round a fraction.
+fn deep(alloc: Global) -> Result<String, AllocError> {
+    wrapped(alloc, "[", "1.5", "]", 17)
+}
+
+/// A list too deep, in a text too large.
+fn deep_and_large(alloc: Global) -> Result<String, AllocError> {
+    let front = repeated(alloc, "[", deep(alloc)?.as_str(), 1, "")?;
+    repeated(alloc, front.as_str(), ",1", 1000, "]")
+}
+
+/// A value that nests too deep, which a later equal key replaces.
+fn replaced(alloc: Global) -> Result<String, AllocError> {
+    repeated(alloc, "{\"a\":", deep(alloc)?.as_str(), 1, ",\"a\":1}")
+}
+
+/// What is read of a text that was made.
+fn made_reads_as(
+    rt: &impl Abort,
+    alloc: Global,
+    made: Result<String, AllocError>,
+    wanted: &str,
+) -> Result<(), Fail> {
+    reads_as(rt, alloc, made?.as_bytes(), wanted)
 }
 
 #[test]
 fn tells_the_first_fault(rt: HostRuntime) -> Result<(), Fail> {
     let alloc = rt.alloc();
-    let deep = wrapped(alloc, "[", "1.5", "]", 17)?;
-    let large = repeated(alloc, "[", "1.5,", 300, "0]")?;
-    let deep_and_large = repeated(alloc, "[", deep.as_str(), 1, "")?;
-    let deep_and_large = repeated(alloc, deep_and_large.as_str(), ",1", 1000, "]")?;
-    let unended = wrapped(alloc, "[", "1.5", "", 17)?;
-    let replaced = repeated(alloc, "{\"a\":", deep.as_str(), 1, ",\"a\":1}")?;
-    assert_eq!(rt; outcome(alloc, deep.as_bytes())?.as_str(), "TooDeep");
-    assert_eq!(rt; outcome(alloc, large.as_bytes())?.as_str(), "BadNumber");
-    assert_eq!(rt;
-        outcome(alloc, deep_and_large.as_bytes())?.as_str(),
-        "TooDeep"
-    );
-    assert_eq!(rt; outcome(alloc, unended.as_bytes())?.as_str(), "NotJson");
-    assert_eq!(rt; outcome(alloc, replaced.as_bytes())?.as_str(), "{\"a\":1}");
-    Ok(())
+    let large = repeated(alloc, "[", "1.5,", 300, "0]");
+    let unended = wrapped(alloc, "[", "1.5", "", 17);
+    made_reads_as(&rt, alloc, deep(alloc), "TooDeep")?;
+    made_reads_as(&rt, alloc, large, "BadNumber")?;
+    made_reads_as(&rt, alloc, deep_and_large(alloc), "TooDeep")?;
+    made_reads_as(&rt, alloc, unended, "NotJson")?;
+    made_reads_as(&rt, alloc, replaced(alloc), "{\"a\":1}")
 }

@@ -4,27 +4,53 @@ use cv_token::{
     ActorId, AppId, Pair, Pairs, Text, Token, actor_id, app_id, are_equal, copy_items, copy_pairs,
     node_id, read, text,
 };
+use std::alloc::Global;
 use std::test::Fail;
 
+/// A token of each form.
+const WRITTEN: &str = "[null,true,1,\"a\",[],{\"a\":{},\"b\":[1]}]";
+
+/// The token of a text.
+fn token(alloc: Global, written: &str) -> Result<Token, Fail> {
+    match read(alloc, written.as_bytes()) {
+        Ok(token) => Ok(token),
+        Err(_fault) => Err(Fail::new("no token")),
+    }
+}
+
 #[test]
-fn copies_and_compares(rt: HostRuntime) -> Result<(), Fail> {
+fn copies_are_equal(rt: HostRuntime) -> Result<(), Fail> {
     let alloc = rt.alloc();
-    let written = "[null,true,1,\"a\",[],{\"a\":{},\"b\":[1]}]";
-    let token = read(alloc, written.as_bytes()).ok().ok_or("a token")?;
+    let token = token(alloc, WRITTEN)?;
     let copy = token.copy(alloc)?;
     assert!(rt; are_equal(&token, &copy));
-    assert_eq!(rt; text(alloc, &copy)?.as_str(), written);
+    assert_eq!(rt; text(alloc, &copy)?.as_str(), WRITTEN);
+    Ok(())
+}
+
+#[test]
+fn others_are_not_equal(rt: HostRuntime) -> Result<(), Fail> {
+    let alloc = rt.alloc();
+    let first = token(alloc, WRITTEN)?;
     for other in ["[null,true,1,\"a\",[],{\"a\":{},\"b\":[2]}]", "1", "true"] {
-        let other = read(alloc, other.as_bytes()).ok().ok_or("a token")?;
-        assert!(rt; !are_equal(&token, &other));
+        assert!(rt; !are_equal(&first, &token(alloc, other)?));
     }
     assert!(rt; !are_equal(&Token::Int(1), &Token::Bool(true)));
-    if let Token::List(items) = &token {
-        assert!(rt; are_equal(&token, &Token::List(copy_items(alloc, items)?)));
-        if let Some(Token::Dict(pairs)) = items.get(5) {
-            assert_eq!(rt; copy_pairs(alloc, pairs)?.len(), 2);
-        }
-    }
+    Ok(())
+}
+
+#[test]
+fn lists_and_dictionaries_are_copied(rt: HostRuntime) -> Result<(), Fail> {
+    let alloc = rt.alloc();
+    let token = token(alloc, WRITTEN)?;
+    let Token::List(items) = &token else {
+        return Err(Fail::new("no list"));
+    };
+    assert!(rt; are_equal(&token, &Token::List(copy_items(alloc, items)?)));
+    let Some(Token::Dict(pairs)) = items.get(5) else {
+        return Err(Fail::new("no dictionary"));
+    };
+    assert_eq!(rt; copy_pairs(alloc, pairs)?.len(), 2);
     Ok(())
 }
 

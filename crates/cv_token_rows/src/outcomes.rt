@@ -2,6 +2,8 @@
 
 use cv_token::{TokenFault, read, read_tree, text};
 use std::alloc::{AllocError, Global};
+use std::process::Abort;
+use std::test::Fail;
 
 /// The text of what `read` gives, or the fault's name.
 pub(crate) fn outcome(alloc: Global, bytes: &[u8]) -> Result<String, AllocError> {
@@ -22,6 +24,36 @@ pub(crate) fn tree_outcome(alloc: Global, bytes: &[u8]) -> Result<String, AllocE
         Some(token) => String::from_str(alloc, text(alloc, &token)?.as_str()),
         None => String::from_str(alloc, "None"),
     }
+}
+
+/// `read` gives a token of this text, or this fault.
+pub(crate) fn reads_as(
+    rt: &impl Abort,
+    alloc: Global,
+    bytes: &[u8],
+    wanted: &str,
+) -> Result<(), Fail> {
+    let told = outcome(alloc, bytes)?;
+    assert_eq!(rt; told.as_str(), wanted);
+    Ok(())
+}
+
+/// `read_tree` gives a token of this text, or `None`.
+pub(crate) fn tree_reads_as(
+    rt: &impl Abort,
+    alloc: Global,
+    bytes: &[u8],
+    wanted: &str,
+) -> Result<(), Fail> {
+    let told = tree_outcome(alloc, bytes)?;
+    assert_eq!(rt; told.as_str(), wanted);
+    Ok(())
+}
+
+/// The bytes are no JSON to either reader.
+pub(crate) fn is_no_json(rt: &impl Abort, alloc: Global, bytes: &[u8]) -> Result<(), Fail> {
+    reads_as(rt, alloc, bytes, "NotJson")?;
+    tree_reads_as(rt, alloc, bytes, "None")
 }
 
 /// `front`, then `part` `count` times, then `back`.

@@ -1,6 +1,6 @@
 //! Vectors of RFC 8259: texts with what each is read as, texts that are refused, and one spelling of each token.
 
-use super::outcomes::{outcome, repeated, tree_outcome};
+use super::outcomes::{is_no_json, reads_as, repeated, tree_reads_as};
 use cv_token::{read_spelled, spells};
 use std::test::Fail;
 
@@ -36,22 +36,15 @@ false > false
 fn reads_each_form(rt: HostRuntime) -> Result<(), Fail> {
     for line in FORMS.split('\n') {
         let (bytes, want) = line.split_once(" > ").ok_or("a line of two parts")?;
-        assert_eq!(rt; outcome(rt.alloc(), bytes.as_bytes())?.as_str(), want);
-        assert_eq!(rt; tree_outcome(rt.alloc(), bytes.as_bytes())?.as_str(), want);
+        reads_as(&rt, rt.alloc(), bytes.as_bytes(), want)?;
+        tree_reads_as(&rt, rt.alloc(), bytes.as_bytes(), want)?;
     }
     // the four kinds of space
     let spaced = " \t\r\n[ 1 ,\t2\n,\r{ \"a\" :\n3 } ] \t\r\n";
-    assert_eq!(rt;
-        outcome(rt.alloc(), spaced.as_bytes())?.as_str(),
-        "[1,2,{\"a\":3}]"
-    );
+    reads_as(&rt, rt.alloc(), spaced.as_bytes(), "[1,2,{\"a\":3}]")?;
     // the character 127 has no escape
     let highest = "\"\\u007f\u{7f}\"";
-    assert_eq!(rt;
-        outcome(rt.alloc(), highest.as_bytes())?.as_str(),
-        "\"\u{7f}\u{7f}\""
-    );
-    Ok(())
+    reads_as(&rt, rt.alloc(), highest.as_bytes(), "\"\u{7f}\u{7f}\"")
 }
 
 #[test]
@@ -59,14 +52,8 @@ fn refuses_bad_numbers(rt: HostRuntime) -> Result<(), Fail> {
     let numbers =
         "1.5 1e2 -0 1.0 0e0 1E+2 1e-400 9223372036854775808 -9223372036854775809 18446744073709551615 18446744073709551616 [1,{\"a\":[-0]}]";
     for bytes in numbers.split(' ') {
-        assert_eq!(rt;
-            outcome(rt.alloc(), bytes.as_bytes())?.as_str(),
-            "BadNumber"
-        );
-        assert_eq!(rt;
-            tree_outcome(rt.alloc(), bytes.as_bytes())?.as_str(),
-            "None"
-        );
+        reads_as(&rt, rt.alloc(), bytes.as_bytes(), "BadNumber")?;
+        tree_reads_as(&rt, rt.alloc(), bytes.as_bytes(), "None")?;
     }
     Ok(())
 }
@@ -114,17 +101,21 @@ NaN
 #[test]
 fn refuses_what_is_not_json(rt: HostRuntime) -> Result<(), Fail> {
     for text in NOT_JSON.split('\n') {
-        assert_eq!(rt; outcome(rt.alloc(), text.as_bytes())?.as_str(), "NotJson");
-        assert_eq!(rt; tree_outcome(rt.alloc(), text.as_bytes())?.as_str(), "None");
+        is_no_json(&rt, rt.alloc(), text.as_bytes())?;
     }
     // an integer past the largest float
     let past = repeated(rt.alloc(), "1", "0", 400, "")?;
-    assert_eq!(rt; outcome(rt.alloc(), past.as_bytes())?.as_str(), "NotJson");
+    reads_as(&rt, rt.alloc(), past.as_bytes(), "NotJson")?;
     // raw control bytes, other spaces, a byte order mark
     for text in "\"\u{1}\";\"\n\";\"\t\";\"\u{1f}\";\"\0\";\u{c}1;\u{a0}1;\u{feff}1; ".split(';') {
-        assert_eq!(rt; outcome(rt.alloc(), text.as_bytes())?.as_str(), "NotJson");
+        reads_as(&rt, rt.alloc(), text.as_bytes(), "NotJson")?;
     }
-    // no UTF-8: a lone byte, too long a form, a surrogate, past the last character, cut short, behind the text
+    Ok(())
+}
+
+#[test]
+fn refuses_what_is_not_utf8(rt: HostRuntime) -> Result<(), Fail> {
+    // a lone byte, too long a form, a surrogate, past the last character, cut short, behind the text
     let cases: [&[u8]; 6] = [
         b"\"\xff\"",
         b"\"\xc0\x80\"",
@@ -134,8 +125,7 @@ fn refuses_what_is_not_json(rt: HostRuntime) -> Result<(), Fail> {
         b"[1]\xff",
     ];
     for bytes in cases {
-        assert_eq!(rt; outcome(rt.alloc(), bytes)?.as_str(), "NotJson");
-        assert_eq!(rt; tree_outcome(rt.alloc(), bytes)?.as_str(), "None");
+        is_no_json(&rt, rt.alloc(), bytes)?;
     }
     Ok(())
 }
