@@ -1,9 +1,12 @@
 //! Rows, and each call with ample memory.
 
+ghost use Rattle.cv_link.specs.Ring.{AreEnds};
+
 use cv_link::{Item, LinkItems, Pair, Plan, Taken};
 use cv_protocol::{Body, Frame};
 use cv_token::{AppId, OutOfMemory};
 use std::alloc::Global;
+use std::process::Abort;
 use std::test::Fail;
 
 fn frame(stamp: u64) -> Frame {
@@ -47,31 +50,34 @@ const fn cut(k: u32) -> Item {
     Item::Cut { from: 1, to: 2, k }
 }
 
+/// The plan tells each frame, given by its stamp, with this letter.
+fn check_letters(rt: &impl Abort, plan: &mut Plan, told: &[(u64, char)]) {
+    for (stamp, letter) in told {
+        assert_eq!(rt; shown(plan.judge(frame(*stamp))), (*letter, *stamp));
+    }
+}
+
 #[test]
 fn frames_are_judged(rt: HostRuntime) -> Result<(), Fail> {
     let items = link(rt.alloc(), &[lose(2), twice(2), twice(3), cut(5), twice(6)])?;
     let mut plan = Plan::new(items);
-    for (stamp, letter) in [(1, 'd'), (2, 'l'), (3, 't'), (4, 'd'), (5, 'l'), (6, 'l')] {
-        assert_eq!(rt; shown(plan.judge(frame(stamp))), (letter, stamp));
-    }
+    let first = [(1, 'd'), (2, 'l'), (3, 't'), (4, 'd'), (5, 'l'), (6, 'l')];
+    check_letters(&rt, &mut plan, &first);
     plan.turn();
-    for stamp in [7, 8] {
-        assert_eq!(rt; shown(plan.judge(frame(stamp))), ('d', stamp));
-    }
+    check_letters(&rt, &mut plan, &[(7, 'd'), (8, 'd')]);
     Ok(())
 }
 
 #[test]
 fn cuts_last_for_their_turn(rt: HostRuntime) -> Result<(), Fail> {
     let mut plan = Plan::new(link(rt.alloc(), &[cut(2), cut(3)])?);
-    assert_eq!(rt; shown(plan.judge(frame(1))), ('d', 1));
+    check_letters(&rt, &mut plan, &[(1, 'd')]);
     plan.turn();
-    assert_eq!(rt; shown(plan.judge(frame(2))), ('l', 2));
+    check_letters(&rt, &mut plan, &[(2, 'l')]);
     plan.turn();
-    assert_eq!(rt; shown(plan.judge(frame(3))), ('l', 3));
-    assert_eq!(rt; shown(plan.judge(frame(4))), ('l', 4));
+    check_letters(&rt, &mut plan, &[(3, 'l'), (4, 'l')]);
     plan.turn();
-    assert_eq!(rt; shown(plan.judge(frame(5))), ('d', 5));
+    check_letters(&rt, &mut plan, &[(5, 'd')]);
     Ok(())
 }
 
@@ -101,7 +107,7 @@ fn items_of_others_change_nothing(rt: HostRuntime) -> Result<(), Fail> {
         lose(0),
     ];
     let mut plan = Plan::new(link(rt.alloc(), &items)?);
-    assert_eq!(rt; shown(plan.judge(frame(1))), ('d', 1));
+    check_letters(&rt, &mut plan, &[(1, 'd')]);
     Ok(())
 }
 
@@ -120,20 +126,45 @@ fn full_ring(rt: HostRuntime) -> Result<(), Fail> {
     Ok(())
 }
 
+/// The ring takes a frame of this stamp.
+#[tactic(auto, using(cv_link::proofs::Ends::ends_stay, cv_link::proofs::Ends::rx_self))]
+fn push(rt: &impl Abort, pair: &mut Pair, stamp: u64)
+    requires { AreEnds pair.old.tx pair.old.rx }
+    ensures { AreEnds pair.new.tx pair.new.rx }
+{
+    assert!(rt; pair.tx.push(frame(stamp)).is_ok());
+}
+
+/// A look sees so many frames.
+fn look(rt: &impl Abort, pair: &mut Pair, count: u32)
+    requires { AreEnds pair.old.tx pair.old.rx }
+    ensures { AreEnds pair.new.tx pair.new.rx }
+{
+    assert_eq!(rt; pair.rx.look(&mut pair.tx), count);
+}
+
+/// The ring gives this frame, told by a letter, or none.
+#[tactic(auto, using(cv_link::proofs::Ends::ends_stay, cv_link::proofs::Ends::tx_self))]
+fn take(rt: &impl Abort, pair: &mut Pair, told: Option<(char, u64)>)
+    requires { AreEnds pair.old.tx pair.old.rx }
+    ensures { AreEnds pair.new.tx pair.new.rx }
+{
+    assert_eq!(rt; pair.rx.take().map(shown), told);
+}
+
 #[test]
-#[tactic(auto, using(cv_link::proofs::Ends::ends_stay))]
 fn frames_come_in_order(rt: HostRuntime) -> Result<(), Fail> {
-    let Pair { mut tx, mut rx } = Pair::new(rt.alloc(), link(rt.alloc(), &[lose(1), twice(3)])?)?;
-    assert_eq!(rt; rx.look(&mut tx), 0);
-    assert!(rt; rx.take().is_none());
-    assert!(rt; tx.push(frame(7)).is_ok());
-    assert!(rt; tx.push(frame(8)).is_ok());
-    assert_eq!(rt; rx.look(&mut tx), 2);
-    assert_eq!(rt; rx.take().map(shown), Some(('l', 7)));
-    assert_eq!(rt; rx.look(&mut tx), 1);
-    assert_eq!(rt; rx.take().map(shown), Some(('d', 8)));
-    assert_eq!(rt; shown(rx.direct(frame(9))), ('t', 9));
-    assert!(rt; rx.take().is_none());
+    let mut pair = Pair::new(rt.alloc(), link(rt.alloc(), &[lose(1), twice(3)])?)?;
+    look(&rt, &mut pair, 0);
+    take(&rt, &mut pair, None);
+    push(&rt, &mut pair, 7);
+    push(&rt, &mut pair, 8);
+    look(&rt, &mut pair, 2);
+    take(&rt, &mut pair, Some(('l', 7)));
+    look(&rt, &mut pair, 1);
+    take(&rt, &mut pair, Some(('d', 8)));
+    assert_eq!(rt; shown(pair.rx.direct(frame(9))), ('t', 9));
+    assert!(rt; pair.rx.take().is_none());
     Ok(())
 }
 
