@@ -2,7 +2,8 @@
 
 use cv_kinds::{ArgFault, ArgList, Argument, Given, check_args, find};
 use cv_token::{Items, Text, Token, read_tree, text};
-use std::alloc::Global;
+use std::alloc::{AllocError, Global};
+use std::process::Abort;
 use std::test::Fail;
 
 /// A kind, its arguments as a script writes them with a space between each two, and what `check_args` answers: the list, or
@@ -195,14 +196,22 @@ fn list_of(alloc: Global, written: &str) -> Result<ArgList, Fail> {
     Ok(given)
 }
 
+/// The fault as a row writes it: its name, and the place where it has one.
+fn fault_text(alloc: Global, fault: ArgFault) -> Result<String, Fail> {
+    let (name, place) = match fault {
+        ArgFault::Fraction { place } => ("Fraction", place),
+        ArgFault::BadArg { place } => ("BadArg", place),
+        ArgFault::Missing => return Ok(String::from_str(alloc, "Missing")?),
+        ArgFault::OutOfMemory => return Err(Fail::from("memory")),
+    };
+    Ok(format!(in alloc; "{name} {place}")?)
+}
+
 /// The answer as a row writes it.
 fn told(alloc: Global, answer: Result<Items, ArgFault>) -> Result<String, Fail> {
     match answer {
         Ok(args) => Ok(String::from_str(alloc, text(alloc, &Token::List(args))?.as_str())?),
-        Err(ArgFault::Fraction { place }) => Ok(format!(in alloc; "Fraction {place}")?),
-        Err(ArgFault::BadArg { place }) => Ok(format!(in alloc; "BadArg {place}")?),
-        Err(ArgFault::Missing) => Ok(String::from_str(alloc, "Missing")?),
-        Err(ArgFault::OutOfMemory) => Err(Fail::from("memory")),
+        Err(fault) => fault_text(alloc, fault),
     }
 }
 
@@ -213,9 +222,21 @@ fn answer(alloc: Global, kind: &str, written: &str) -> Result<String, Fail> {
     told(alloc, check_args(alloc, kind, &given))
 }
 
+/// These arguments of a kind have the wanted answer.
+fn check_row(
+    rt: &impl Abort,
+    alloc: Global,
+    kind: &str,
+    written: &str,
+    wanted: &str,
+) -> Result<(), Fail> {
+    let found = answer(alloc, kind, written)?;
+    assert_eq!(rt; found.as_str(), wanted, "{kind}({written})");
+    Ok(())
+}
+
 #[test]
 fn arguments_are_checked(rt: HostRuntime) -> Result<(), Fail> {
-    let alloc = rt.alloc();
     for rows in [
         SOURCES.as_slice(),
         PASSING.as_slice(),
@@ -223,8 +244,7 @@ fn arguments_are_checked(rt: HostRuntime) -> Result<(), Fail> {
         SEVERAL.as_slice(),
     ] {
         for (kind, written, wanted) in rows {
-            let found = answer(alloc, kind, written)?;
-            assert_eq!(rt; found.as_str(), *wanted, "{kind}({written})");
+            check_row(&rt, rt.alloc(), kind, written, wanted)?;
         }
     }
     Ok(())
@@ -232,28 +252,30 @@ fn arguments_are_checked(rt: HostRuntime) -> Result<(), Fail> {
 
 #[test]
 fn kinds_without_parameters_take_none(rt: HostRuntime) -> Result<(), Fail> {
-    let alloc = rt.alloc();
-    for kind in BARE {
-        let found = answer(alloc, kind, "")?;
-        assert_eq!(rt; found.as_str(), "[]");
-        let found = answer(alloc, kind, "n=1")?;
-        assert_eq!(rt; found.as_str(), "BadArg 0");
+    for kind in &BARE {
+        check_row(&rt, rt.alloc(), kind, "", "[]")?;
+        check_row(&rt, rt.alloc(), kind, "n=1", "BadArg 0")?;
     }
     Ok(())
+}
+
+/// An argument that is a text of so many letters.
+fn long_argument(alloc: Global, letters: u32) -> Result<String, AllocError> {
+    let mut written = String::from_str(alloc, "data=\"")?;
+    for _ in 0..letters {
+        written.push_str("a")?;
+    }
+    written.push_str("\"")?;
+    Ok(written)
 }
 
 /// An argument fits: its text has at most 1,024 bytes.
 #[test]
 fn arguments_fit(rt: HostRuntime) -> Result<(), Fail> {
     let alloc = rt.alloc();
+    let kind = find("flow.Init").ok_or("a kind")?;
     for (letters, is_good) in [(1022, true), (1023, false)] {
-        let mut written = String::from_str(alloc, "data=\"")?;
-        for _ in 0..letters {
-            written.push_str("a")?;
-        }
-        written.push_str("\"")?;
-        let kind = find("flow.Init").ok_or("a kind")?;
-        let given = list_of(alloc, written.as_str())?;
+        let given = list_of(alloc, long_argument(alloc, letters)?.as_str())?;
         assert_eq!(rt; check_args(alloc, kind, &given).is_ok(), is_good);
     }
     Ok(())
