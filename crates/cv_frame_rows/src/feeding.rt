@@ -24,6 +24,23 @@ fn taken(alloc: Global, feed: &mut Feed) -> Result<String, Fail> {
     }
 }
 
+/// Whether the frames that wait have these texts, and none waits behind them.
+fn holds(alloc: Global, feed: &mut Feed, texts: &[&str]) -> Result<bool, Fail> {
+    for text in texts {
+        if taken(alloc, feed)?.as_str() != *text {
+            return Ok(false);
+        }
+    }
+    Ok(feed.take().is_none())
+}
+
+/// The bytes of two frames, each behind its length.
+fn two_framed(alloc: Global, first: (u8, &str), second: (u8, &str)) -> Result<Vec<u8>, Fail> {
+    let mut stream = framed(alloc, first.0, first.1)?;
+    stream.extend_from_slice(&framed(alloc, second.0, second.1)?)?;
+    Ok(stream)
+}
+
 // None until the last byte, then that frame, then none.
 #[test]
 fn a_frame_in_single_bytes(rt: HostRuntime) -> Result<(), Fail> {
@@ -33,8 +50,7 @@ fn a_frame_in_single_bytes(rt: HostRuntime) -> Result<(), Fail> {
         assert!(rt; feed.take().is_none());
         assert!(rt; feed.push(alloc, &[*byte]).is_ok());
     }
-    assert!(rt; taken(alloc, &mut feed)?.as_str() == ACK);
-    assert!(rt; feed.take().is_none());
+    assert!(rt; holds(alloc, &mut feed, &[ACK])?);
     Ok(())
 }
 
@@ -42,16 +58,13 @@ fn a_frame_in_single_bytes(rt: HostRuntime) -> Result<(), Fail> {
 #[test]
 fn two_frames_in_pieces(rt: HostRuntime) -> Result<(), Fail> {
     let alloc = rt.alloc();
-    let mut stream = framed(alloc, 0x3c, ACK)?;
-    stream.extend_from_slice(&framed(alloc, 0x38, CANCEL)?)?;
+    let stream = two_framed(alloc, (0x3c, ACK), (0x38, CANCEL))?;
     for size in 1..=stream.len() {
         let mut feed = Feed::new(alloc)?;
         for piece in stream.as_slice().chunks(size) {
             assert!(rt; feed.push(alloc, piece).is_ok());
         }
-        assert!(rt; taken(alloc, &mut feed)?.as_str() == ACK, "{size}");
-        assert!(rt; taken(alloc, &mut feed)?.as_str() == CANCEL, "{size}");
-        assert!(rt; feed.take().is_none());
+        assert!(rt; holds(alloc, &mut feed, &[ACK, CANCEL])?, "{size}");
     }
     Ok(())
 }
@@ -62,16 +75,28 @@ fn is_refused(alloc: Global, bytes: &[u8], fault: FrameFault) -> Result<bool, Fa
     Ok(feed.push(alloc, bytes) == Err(fault) && feed.push(alloc, b"") == Err(fault))
 }
 
+/// An ack with a space.
+const SPACED: &str = "{\"body\":[\"ack\", [1,1,0],[1,1,0],3],\"from\":2,\"stamp\":9,\"to\":1}";
+
 #[test]
 fn faults_are_told(rt: HostRuntime) -> Result<(), Fail> {
     let alloc = rt.alloc();
-    let space = "{\"body\":[\"ack\", [1,1,0],[1,1,0],3],\"from\":2,\"stamp\":9,\"to\":1}";
-    let bytes = framed(alloc, 0x3d, space)?;
-    assert!(rt; is_refused(alloc, &bytes, FrameFault::BadFrame { at: 0 })?);
-    assert!(rt; is_refused(alloc, &[0, 0x10, 0, 1], FrameFault::FrameTooLong)?);
-    assert!(rt; is_refused(alloc, &[0, 0, 0, 0], FrameFault::BadFrame { at: 0 })?);
-    let mut feed = Feed::new(alloc)?;
-    assert!(rt; feed.push(alloc, &[0, 0x10, 0, 0, b'{']).is_ok());
+    let spaced = framed(alloc, 0x3d, SPACED)?;
+    for (bytes, fault) in [
+        (spaced.as_slice(), FrameFault::BadFrame { at: 0 }),
+        ([0, 0x10, 0, 1].as_slice(), FrameFault::FrameTooLong),
+        ([0, 0, 0, 0].as_slice(), FrameFault::BadFrame { at: 0 }),
+    ] {
+        assert!(rt; is_refused(alloc, bytes, fault)?);
+    }
+    Ok(())
+}
+
+// The greatest length that a frame may have is no fault.
+#[test]
+fn the_greatest_length_is_taken(rt: HostRuntime) -> Result<(), Fail> {
+    let mut feed = Feed::new(rt.alloc())?;
+    assert!(rt; feed.push(rt.alloc(), b"\x00\x10\x00\x00{").is_ok());
     Ok(())
 }
 
@@ -79,8 +104,7 @@ fn faults_are_told(rt: HostRuntime) -> Result<(), Fail> {
 #[test]
 fn a_fault_behind_a_frame(rt: HostRuntime) -> Result<(), Fail> {
     let alloc = rt.alloc();
-    let mut stream = framed(alloc, 0x3c, ACK)?;
-    stream.extend_from_slice(&framed(alloc, 2, "{}")?)?;
+    let stream = two_framed(alloc, (0x3c, ACK), (2, "{}"))?;
     for size in 1..=stream.len() {
         let mut feed = Feed::new(alloc)?;
         let mut told = Ok(());
@@ -88,8 +112,7 @@ fn a_fault_behind_a_frame(rt: HostRuntime) -> Result<(), Fail> {
             told = feed.push(alloc, piece);
         }
         assert!(rt; told == Err(FrameFault::BadFrame { at: 64 }), "{size}");
-        assert!(rt; taken(alloc, &mut feed)?.as_str() == ACK, "{size}");
-        assert!(rt; feed.take().is_none());
+        assert!(rt; holds(alloc, &mut feed, &[ACK])?, "{size}");
     }
     Ok(())
 }

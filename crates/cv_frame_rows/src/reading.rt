@@ -83,19 +83,22 @@ fn frames_out_of_range_are_refused(rt: HostRuntime) -> Result<(), Fail> {
     Ok(())
 }
 
+const TRANSFER: &str =
+    "{\"body\":[\"transfer\",[1,1,1],1,[\"cs1\",\"mid\",\"std.Identity\",[false],[],0,null,\
+[[[1,1,0],[1,1,0],2,[7]]],[[3,[5],[[[1,1,1],[1,1,2],2]]]],[[[1,1,0],0,1],[[1,1,2],3,2]]]],\
+\"from\":1,\"stamp\":12,\"to\":2}";
+
+/// A transfer of a state whose spelling is of another number.
+const OTHER_TRANSFER: &str =
+    "{\"body\":[\"transfer\",[1,1,1],1,[\"cs2\",\"mid\",\"std.Identity\",[false],[],0,null,\
+[[[1,1,0],[1,1,0],2,[7]]],[[3,[5],[[[1,1,1],[1,1,2],2]]]],[[[1,1,0],0,1],[[1,1,2],3,2]]]],\
+\"from\":1,\"stamp\":12,\"to\":2}";
+
 #[test]
 fn a_transfer_is_read_back(rt: HostRuntime) -> Result<(), Fail> {
     let alloc = rt.alloc();
-    let text =
-        "{\"body\":[\"transfer\",[1,1,1],1,[\"cs1\",\"mid\",\"std.Identity\",[false],[],0,null,\
-[[[1,1,0],[1,1,0],2,[7]]],[[3,[5],[[[1,1,1],[1,1,2],2]]]],[[[1,1,0],0,1],[[1,1,2],3,2]]]],\
-\"from\":1,\"stamp\":12,\"to\":2}";
-    assert!(rt; reads_back(alloc, text)?);
-    let other =
-        "{\"body\":[\"transfer\",[1,1,1],1,[\"cs2\",\"mid\",\"std.Identity\",[false],[],0,null,\
-[[[1,1,0],[1,1,0],2,[7]]],[[3,[5],[[[1,1,1],[1,1,2],2]]]],[[[1,1,0],0,1],[[1,1,2],3,2]]]],\
-\"from\":1,\"stamp\":12,\"to\":2}";
-    assert!(rt; is_refused(alloc, other)?);
+    assert!(rt; reads_back(alloc, TRANSFER)?);
+    assert!(rt; is_refused(alloc, OTHER_TRANSFER)?);
     Ok(())
 }
 
@@ -126,22 +129,26 @@ const NO_STATES: [&str; 14] = [
     "[\"cs1\",\"snk\",\"io.Print\",[],[],0,null,[null],[],[[[1,1,1],0,1],[[1,1,1],0,1]]]",
 ];
 
+/// Whether the text is read as a state whose text it is.
+fn state_reads_back(alloc: Global, text: &str) -> Result<bool, Fail> {
+    let Some(state) = state_read(alloc, actor(1, 1, 0), text.as_bytes())? else {
+        return Ok(false);
+    };
+    Ok(state_text(alloc, &state)?.as_str() == text)
+}
+
+fn is_no_state(alloc: Global, text: &str) -> Result<bool, Fail> {
+    Ok(state_read(alloc, actor(1, 1, 0), text.as_bytes())?.is_none())
+}
+
 #[test]
 fn states_are_read_back_or_refused(rt: HostRuntime) -> Result<(), Fail> {
     let alloc = rt.alloc();
     for text in STATES {
-        match state_read(alloc, actor(1, 1, 0), text.as_bytes())? {
-            Some(state) => {
-                assert!(rt; state_text(alloc, &state)?.as_str() == text, "{text}");
-            }
-            None => assert!(rt; false, "{text}"),
-        }
+        assert!(rt; state_reads_back(alloc, text)?, "{text}");
     }
     for text in NO_STATES {
-        assert!(rt;
-            state_read(alloc, actor(1, 1, 0), text.as_bytes())?.is_none(),
-            "{text}"
-        );
+        assert!(rt; is_no_state(alloc, text)?, "{text}");
     }
     Ok(())
 }

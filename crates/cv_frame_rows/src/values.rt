@@ -41,15 +41,30 @@ fn fed(rt: &impl Abort, alloc: Global) -> Result<Option<Inlet>, Fail> {
     }))
 }
 
-/// The outport that wrote three tokens, of which the last one, a 5, is not acknowledged.
-fn written(alloc: Global) -> Result<Option<OutPort>, Fail> {
+/// The reader of the outport, which acknowledged two tokens.
+fn readers(alloc: Global) -> Result<Readers, Fail> {
     let mut readers = Readers::new(alloc);
     readers.push(Subscription {
         conn: conn(1, 1, 1),
         consumer: actor(1, 1, 2),
         acked: 2,
     })?;
-    Ok(OutPort::of(alloc, 4, 3, alone(alloc, Token::Int(5))?, readers)?)
+    Ok(readers)
+}
+
+/// The outport that wrote three tokens, of which the last one, a 5, is not acknowledged.
+fn written(alloc: Global) -> Result<Option<OutPort>, Fail> {
+    let tokens = alone(alloc, Token::Int(5))?;
+    Ok(OutPort::of(alloc, 4, 3, tokens, readers(alloc)?)?)
+}
+
+/// The outports, of which there is one.
+fn outports(alloc: Global) -> Result<Vec<OutPort>, Fail> {
+    let mut outs = Vec::new(alloc);
+    if let Some(out) = written(alloc)? {
+        outs.push(out)?;
+    }
+    Ok(outs)
 }
 
 fn hint(actor: ActorId, attempt: u64, node: u16) -> Hint {
@@ -60,26 +75,35 @@ fn hint(actor: ActorId, attempt: u64, node: u16) -> Hint {
     }
 }
 
-/// An identity between two others.
-pub(crate) fn state(rt: &impl Abort, alloc: Global) -> Result<ActorState, Fail> {
-    let kind = Kind::Flow(FlowKind::Identity);
-    let ins = vec![in alloc; fed(rt, alloc)?]?;
-    let mut outs = Vec::new(alloc);
-    if let Some(out) = written(alloc)? {
-        outs.push(out)?;
-    }
+/// Where the two others live.
+fn hints(alloc: Global) -> Result<Hints, Fail> {
     let mut hints = Hints::new(alloc);
     hints.push(hint(actor(1, 1, 0), 0, 1))?;
     hints.push(hint(actor(1, 1, 2), 3, 2))?;
-    assert!(rt; ins.len() == usize::from(kind.inports()));
-    assert!(rt; outs.len() == usize::from(kind.outports()));
+    Ok(hints)
+}
+
+/// An identity that does not dump.
+fn identity(alloc: Global) -> Result<ActorSpec, Fail> {
+    let args = alone(alloc, Token::Bool(false))?;
+    Ok(ActorSpec {
+        path: Text::from_string(String::from_str(alloc, "mid")?),
+        kind: Kind::Flow(FlowKind::Identity),
+        args,
+    })
+}
+
+/// An identity between two others.
+pub(crate) fn state(rt: &impl Abort, alloc: Global) -> Result<ActorState, Fail> {
+    let spec = identity(alloc)?;
+    let ins = vec![in alloc; fed(rt, alloc)?]?;
+    let outs = outports(alloc)?;
+    let hints = hints(alloc)?;
+    assert!(rt; ins.len() == usize::from(spec.kind.inports()));
+    assert!(rt; outs.len() == usize::from(spec.kind.outports()));
     Ok(ActorState::from_parts(StateParts {
         id: actor(1, 1, 1),
-        spec: ActorSpec {
-            path: Text::from_string(String::from_str(alloc, "mid")?),
-            kind,
-            args: alone(alloc, Token::Bool(false))?,
-        },
+        spec,
         slots: Items::new(alloc),
         wait: 0,
         ins,

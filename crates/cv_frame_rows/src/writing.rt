@@ -64,6 +64,9 @@ fn an_ack_frame(rt: HostRuntime) -> Result<(), Fail> {
     Ok(())
 }
 
+const NACK: &str = "{\"body\":[\"nack\",[64,4294967295,65535],[64,4294967295,65535],0],\
+\"from\":64,\"stamp\":4611686018427387903,\"to\":63}";
+
 // Each number is the greatest of its field.
 #[test]
 fn a_nack_frame(rt: HostRuntime) -> Result<(), Fail> {
@@ -73,18 +76,27 @@ fn a_nack_frame(rt: HostRuntime) -> Result<(), Fail> {
         actor: actor(64, 4_294_967_295, 65535),
         upto: 0,
     };
-    let text = "{\"body\":[\"nack\",[64,4294967295,65535],[64,4294967295,65535],0],\
-\"from\":64,\"stamp\":4611686018427387903,\"to\":63}";
     let stamp = (1 << 62) - 1;
-    assert!(rt; is_spelled(alloc, frame(64, 63, stamp, body), [0, 0, 0, 0x6d], text)?);
+    assert!(rt; is_spelled(alloc, frame(64, 63, stamp, body), [0, 0, 0, 0x6d], NACK)?);
     Ok(())
 }
+
+#[test]
+fn a_state_is_spelled(rt: HostRuntime) -> Result<(), Fail> {
+    let travelling = state(&rt, rt.alloc())?;
+    assert!(rt; state_text(rt.alloc(), &travelling)?.as_str() == STATE);
+    Ok(())
+}
+
+const TRANSFER: &str =
+    "{\"body\":[\"transfer\",[1,1,1],1,[\"cs1\",\"mid\",\"std.Identity\",[false],[],0,null,\
+[[[1,1,0],[1,1,0],2,[7]]],[[3,[5],[[[1,1,1],[1,1,2],2]]]],[[[1,1,0],0,1],[[1,1,2],3,2]]]],\
+\"from\":1,\"stamp\":12,\"to\":2}";
 
 #[test]
 fn a_transfer_frame(rt: HostRuntime) -> Result<(), Fail> {
     let alloc = rt.alloc();
     let travelling = state(&rt, alloc)?;
-    assert!(rt; state_text(alloc, &travelling)?.as_str() == STATE);
     let Ok(state) = Boxed::new(alloc, travelling) else {
         return Err(Fail::new("no memory"));
     };
@@ -93,11 +105,7 @@ fn a_transfer_frame(rt: HostRuntime) -> Result<(), Fail> {
         attempt: 1,
         state,
     };
-    let text =
-        "{\"body\":[\"transfer\",[1,1,1],1,[\"cs1\",\"mid\",\"std.Identity\",[false],[],0,null,\
-[[[1,1,0],[1,1,0],2,[7]]],[[3,[5],[[[1,1,1],[1,1,2],2]]]],[[[1,1,0],0,1],[[1,1,2],3,2]]]],\
-\"from\":1,\"stamp\":12,\"to\":2}";
-    assert!(rt; is_spelled(alloc, frame(1, 2, 12, body), [0, 0, 0, 0xc1], text)?);
+    assert!(rt; is_spelled(alloc, frame(1, 2, 12, body), [0, 0, 0, 0xc1], TRANSFER)?);
     Ok(())
 }
 
