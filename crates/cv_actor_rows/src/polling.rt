@@ -13,6 +13,15 @@ use std::test::Fail;
 
 const APP: AppId = AppId { node: 1, seq: 1 };
 
+/// Whole numbers as arguments.
+fn numbers(alloc: Global, args: &[i64]) -> Result<Items, Fail> {
+    let mut items = Items::new(alloc);
+    for arg in args {
+        items.push(Token::Int(*arg))?;
+    }
+    Ok(items)
+}
+
 /// Actor 0 of a network with these connections, at the start.
 fn started(
     rt: &impl Abort,
@@ -21,14 +30,11 @@ fn started(
     args: &[i64],
     connections: &[Connection],
 ) -> Result<Live, Fail> {
-    let mut items = Items::new(alloc);
-    for arg in args {
-        items.push(Token::Int(*arg))?;
-    }
+    let args = numbers(alloc, args)?;
     let spec = ActorSpec {
         path: Text::from_string(String::from_str(alloc, "it")?),
         kind: Kind::Flow(kind),
-        args: items,
+        args,
     };
     assert!(rt; connections.len() <= 9);
     assert!(rt; spec.kind.pause(&spec.args) < 1000);
@@ -46,13 +52,23 @@ fn offer(rt: &impl Abort, live: &mut Live, port: u8, n: u64, token: Token) -> bo
     }
 }
 
-fn poll(rt: &impl Abort, alloc: Global, live: &mut Live, now: u64) -> Result<Polled, Fail> {
-    assert!(rt; live.may_poll(now));
-    Ok(live.poll(alloc, now)?)
+/// The first token of an inport is taken.
+fn feed(rt: &impl Abort, live: &mut Live, port: u8, number: i64) {
+    assert!(rt; offer(rt, live, port, 0, Token::Int(number)));
 }
 
-fn is(polled: Polled, wanted: Polled) -> bool {
-    polled == wanted
+/// A poll at this time has this answer.
+fn poll(
+    rt: &impl Abort,
+    alloc: Global,
+    live: &mut Live,
+    now: u64,
+    wanted: Polled,
+) -> Result<(), Fail> {
+    assert!(rt; live.may_poll(now));
+    let polled = live.poll(alloc, now)?;
+    assert!(rt; polled == wanted);
+    Ok(())
 }
 
 fn written(live: &Live) -> Option<u64> {
@@ -86,16 +102,16 @@ fn a_join_holds_and_then_fires(rt: HostRuntime) -> Result<(), Fail> {
     let alloc = rt.alloc();
     let mut live = started(&rt, alloc, FlowKind::Join, &[], &JOINED)?;
     let idle = Polled::Waiting([Some(Need::Token(0, 1)), Some(Need::Token(1, 1)), None, None]);
-    assert!(rt; is(poll(&rt, alloc, &mut live, 0)?, idle));
-    assert!(rt; offer(&rt, &mut live, 0, 0, Token::Int(5)));
-    assert!(rt; offer(&rt, &mut live, 1, 0, Token::Int(6)));
-    assert!(rt; is(poll(&rt, alloc, &mut live, 0)?, Polled::Held(0)));
-    assert!(rt; is(poll(&rt, alloc, &mut live, 0)?, Polled::Fired(0)));
+    poll(&rt, alloc, &mut live, 0, idle)?;
+    feed(&rt, &mut live, 0, 5);
+    feed(&rt, &mut live, 1, 6);
+    poll(&rt, alloc, &mut live, 0, Polled::Held(0))?;
+    poll(&rt, alloc, &mut live, 0, Polled::Fired(0))?;
     assert_eq!(rt; written(&live), Some(1));
-    assert!(rt; is(poll(&rt, alloc, &mut live, 0)?, Polled::Held(1)));
-    assert!(rt; is(poll(&rt, alloc, &mut live, 0)?, Polled::Fired(1)));
+    poll(&rt, alloc, &mut live, 0, Polled::Held(1))?;
+    poll(&rt, alloc, &mut live, 0, Polled::Fired(1))?;
     assert_eq!(rt; written(&live), Some(2));
-    assert!(rt; is(poll(&rt, alloc, &mut live, 0)?, idle));
+    poll(&rt, alloc, &mut live, 0, idle)?;
     Ok(())
 }
 
@@ -106,11 +122,11 @@ fn a_timer_waits_until_it_is_due(rt: HostRuntime) -> Result<(), Fail> {
     let mut live = started(&rt, alloc, FlowKind::CountTimer, &[100, 1, 1], &[])?;
     assert_eq!(rt; live.due(), 100);
     let early = Polled::Waiting([Some(Need::Until(100)), None, None, None]);
-    assert!(rt; is(poll(&rt, alloc, &mut live, 99)?, early));
-    assert!(rt; is(poll(&rt, alloc, &mut live, 100)?, Polled::Fired(0)));
+    poll(&rt, alloc, &mut live, 99, early)?;
+    poll(&rt, alloc, &mut live, 100, Polled::Fired(0))?;
     assert_eq!(rt; live.due(), 200);
     let done = Polled::Waiting([Some(Need::Guard), None, None, None]);
-    assert!(rt; is(poll(&rt, alloc, &mut live, 300)?, done));
+    poll(&rt, alloc, &mut live, 300, done)?;
     Ok(())
 }
 
@@ -123,6 +139,6 @@ fn a_void_inport_is_not_lent(rt: HostRuntime) -> Result<(), Fail> {
     assert!(rt; live.feed(0).is_none());
     assert!(rt; !offer(&rt, &mut live, 0, 0, Token::Int(5)));
     let idle = Polled::Waiting([Some(Need::Token(0, 1)), None, None, None]);
-    assert!(rt; is(poll(&rt, alloc, &mut live, 0)?, idle));
+    poll(&rt, alloc, &mut live, 0, idle)?;
     Ok(())
 }
