@@ -1,5 +1,6 @@
 //! Texts of journals, and their first lines that are not of the form.
 
+use cv_protocol::Journal;
 use cv_record::{LineFault, read, write};
 use std::alloc::Global;
 use std::process::Abort;
@@ -62,41 +63,35 @@ fn is_told(alloc: Global, text: &str, line: u64) -> bool {
 
 #[test]
 fn journals_are_read_back(rt: HostRuntime) -> Result<(), Fail> {
-    let alloc = rt.alloc();
-    assert!(rt; reads_back(alloc, "")?);
-    assert!(rt; reads_back(alloc, "[\"node\",64,0,64,{},0]\n")?);
-    assert!(rt; reads_back(alloc, TEXT)?);
+    for text in ["", "[\"node\",64,0,64,{},0]\n", TEXT] {
+        assert!(rt; reads_back(rt.alloc(), text)?, "{text}");
+    }
     Ok(())
+}
+
+/// A node's number, room and window, and how many attributes and entries it has.
+fn counts(journal: &Journal) -> (u16, u16, u16, usize, usize) {
+    let spec = &journal.spec;
+    let attributes = spec.attrs.as_slice().len();
+    (
+        spec.no,
+        spec.room,
+        spec.window,
+        attributes,
+        journal.entries.len(),
+    )
 }
 
 #[test]
 fn what_is_read(rt: HostRuntime) -> Result<(), Fail> {
-    let alloc = rt.alloc();
-    let Ok(journals) = read(alloc, TEXT.as_bytes()) else {
+    let Ok(journals) = read(rt.alloc(), TEXT.as_bytes()) else {
         return Err("no journals".into());
     };
-    assert_eq!(rt; journals.len(), 2);
-    assert_eq!(rt;
-        (
-            journals[0].spec.no,
-            journals[0].spec.room,
-            journals[0].spec.window
-        ),
-        (1, 65535, 64)
-    );
-    assert_eq!(rt;
-        (
-            journals[1].spec.no,
-            journals[1].spec.room,
-            journals[1].spec.window
-        ),
-        (3, 0, 1)
-    );
-    assert_eq!(rt;
-        (journals[0].entries.len(), journals[1].entries.len()),
-        (2, 1)
-    );
-    assert_eq!(rt; journals[0].spec.attrs.as_slice().len(), 1);
+    let [first, second] = journals.as_slice() else {
+        return Err("not two journals".into());
+    };
+    assert_eq!(rt; counts(first), (1, 65535, 64, 1, 2));
+    assert_eq!(rt; counts(second), (3, 0, 1, 0, 1));
     Ok(())
 }
 

@@ -74,68 +74,89 @@ fn token(alloc: Global) -> Result<Frame, OutOfMemory> {
 }
 
 /// The events of steps that take no memory, the second to the seventh behind the deployment.
-fn push_steps(events: &mut Vec<Event>) -> Result<(), Fail> {
-    events.push(Event::Tick {
-        now: 4_611_686_018_427_387_903,
-    })?;
-    events.push(Event::Peek {
-        actor: actor(2, 3, 65_535),
-        port: 255,
-    })?;
-    events.push(Event::Fire {
-        actor: actor(1, 1, 0),
-        action: 0,
-    })?;
-    events.push(Event::Pass {
-        conn: conn(1, 1, 0),
-    })?;
-    events.push(Event::Send {
-        conn: conn(1, 4_294_967_295, 65_535),
-    })?;
-    events.push(Event::Rewind {
-        conn: conn(1, 1, 3),
-    })?;
-    Ok(())
+fn steps() -> [Event; 6] {
+    [
+        Event::Tick {
+            now: 4_611_686_018_427_387_903,
+        },
+        Event::Peek {
+            actor: actor(2, 3, 65_535),
+            port: 255,
+        },
+        Event::Fire {
+            actor: actor(1, 1, 0),
+            action: 0,
+        },
+        Event::Pass {
+            conn: conn(1, 1, 0),
+        },
+        Event::Send {
+            conn: conn(1, 4_294_967_295, 65_535),
+        },
+        Event::Rewind {
+            conn: conn(1, 1, 3),
+        },
+    ]
 }
 
 /// The events of moves, and the end of an application.
-fn push_moves(events: &mut Vec<Event>) -> Result<(), Fail> {
+fn moves() -> [Event; 5] {
     let actor = actor(1, 1, 2);
-    events.push(Event::Freeze { actor, to: 64 })?;
-    events.push(Event::Resend { actor })?;
-    events.push(Event::Withdraw { actor })?;
-    events.push(Event::Hint {
-        actor,
-        attempt: 7,
-        node: 3,
-    })?;
-    let app = AppId { node: 1, seq: 1 };
-    events.push(Event::Destroy { app })?;
-    Ok(())
+    [
+        Event::Freeze { actor, to: 64 },
+        Event::Resend { actor },
+        Event::Withdraw { actor },
+        Event::Hint {
+            actor,
+            attempt: 7,
+            node: 3,
+        },
+        Event::Destroy {
+            app: AppId { node: 1, seq: 1 },
+        },
+    ]
+}
+
+/// The event of a node that is met.
+fn meet(alloc: Global) -> Result<Event, Fail> {
+    Ok(Event::Meet {
+        node: 64,
+        attrs: attributes(alloc)?,
+    })
+}
+
+/// An event of each sort but the last, a delivery, in the order of the node table.
+fn events(alloc: Global) -> Result<Vec<Event>, Fail> {
+    let mut events = Vec::new(alloc);
+    events.push(meet(alloc)?)?;
+    events.push(deploy(alloc)?)?;
+    for event in steps() {
+        events.push(event)?;
+    }
+    for event in moves() {
+        events.push(event)?;
+    }
+    events.push(Event::Lose { frame: ack() })?;
+    Ok(events)
+}
+
+/// The entry of a delivery, at the greatest stamp.
+fn delivery(alloc: Global) -> Result<Entry, OutOfMemory> {
+    let frame = token(alloc)?;
+    Ok(Entry {
+        stamp: 4_611_686_018_427_387_903,
+        event: Event::Deliver { frame },
+    })
 }
 
 /// An entry of each event, in the order of the node table; their stamps count from 1, and the last one is 2^62 - 1.
 pub(crate) fn entries(alloc: Global) -> Result<Vec<Entry>, Fail> {
-    let mut events = Vec::new(alloc);
-    events.push(Event::Meet {
-        node: 64,
-        attrs: attributes(alloc)?,
-    })?;
-    events.push(deploy(alloc)?)?;
-    push_steps(&mut events)?;
-    push_moves(&mut events)?;
-    events.push(Event::Lose { frame: ack() })?;
     let mut entries = Vec::new(alloc);
     let mut stamp: u64 = 1;
-    for event in events {
+    for event in events(alloc)? {
         entries.push(Entry { stamp, event })?;
         stamp = stamp.saturating_add(1);
     }
-    entries.push(Entry {
-        stamp: 4_611_686_018_427_387_903,
-        event: Event::Deliver {
-            frame: token(alloc)?,
-        },
-    })?;
+    entries.push(delivery(alloc)?)?;
     Ok(entries)
 }
