@@ -201,24 +201,31 @@ fn calculates(rt: HostRuntime) -> Result<(), Fail> {
     Ok(())
 }
 
-/// One action, which needs one token of each inport and gives one; no state, no guard port, no pause.
+/// One action, which needs one token of each inport and gives one.
 #[test]
 fn has_one_action(rt: HostRuntime) -> Result<(), Fail> {
     let none = Items::new(rt.alloc());
     for table in [MATH.as_slice(), TEXTS.as_slice()] {
         for (kind, inports, _lines) in table {
             let ports = (kind.actions(), kind.inports(), kind.outports());
-            assert_eq!(rt; ports, (1, *inports, 1), "{kind:?}");
             let needs = (kind.needs(&none, 0, 0), kind.needs(&none, 0, 1));
-            assert_eq!(rt; needs, (1, u16::from(*inports) - 1), "{kind:?}");
-            assert_eq!(rt; (kind.gives(0, 0), kind.gives(0, 1)), (1, 0), "{kind:?}");
-            assert_eq!(rt;
-                (kind.guard_port(), kind.timed(0)),
-                (None, false),
-                "{kind:?}"
-            );
-            assert_eq!(rt; kind.pause(&none), 0, "{kind:?}");
-            assert_eq!(rt; kind.start(rt.alloc(), &none)?.len(), 0, "{kind:?}");
+            let gives = (kind.gives(0, 0), kind.gives(0, 1));
+            let want = ((1, *inports, 1), (1, u16::from(*inports) - 1), (1, 0));
+            assert_eq!(rt; (ports, needs, gives), want, "{kind:?}");
+        }
+    }
+    Ok(())
+}
+
+/// No state, no guard port, no pause.
+#[test]
+fn holds_and_waits_for_nothing(rt: HostRuntime) -> Result<(), Fail> {
+    let none = Items::new(rt.alloc());
+    for table in [MATH.as_slice(), TEXTS.as_slice()] {
+        for (kind, _inports, _lines) in table {
+            let slots = kind.start(rt.alloc(), &none)?.len();
+            let waits = (kind.guard_port(), kind.timed(0), kind.pause(&none));
+            assert_eq!(rt; (slots, waits), (0, (None, false, 0)), "{kind:?}");
         }
     }
     Ok(())

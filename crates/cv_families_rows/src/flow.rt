@@ -4,7 +4,8 @@
 use super::lines::{expanded, fired, list};
 use cv_behave::Behave;
 use cv_flow::FlowKind;
-use cv_token::{Token, text};
+use cv_token::{Text, Token, text};
+use std::alloc::Global;
 use std::test::Fail;
 
 /// The arithmetic of row `sum-overflow`.
@@ -318,19 +319,30 @@ const LISTS: [(FlowKind, &str, &str); 7] = [
     ),
 ];
 
+const TABLES: [&[(FlowKind, &str, &str)]; 5] = [&SUM_OVERFLOW, &SOURCES, &COUNTS, &ROUTES, &LISTS];
+
+/// The state that a kind begins with, as text.
+fn start_text(alloc: Global, kind: &FlowKind, args: &str) -> Result<Text, Fail> {
+    let state = kind.start(alloc, &list(alloc, args)?)?;
+    Ok(text(alloc, &Token::List(state))?)
+}
+
+#[test]
+fn starts_as_its_row_says(rt: HostRuntime) -> Result<(), Fail> {
+    for table in TABLES {
+        for (kind, start, _lines) in table {
+            let (args, want) = start.split_once(" > ").ok_or("two parts")?;
+            let found = start_text(rt.alloc(), kind, args)?;
+            assert_eq!(rt; found.as_str(), want, "{kind:?}");
+        }
+    }
+    Ok(())
+}
+
 #[test]
 fn acts_as_its_row_says(rt: HostRuntime) -> Result<(), Fail> {
-    for table in [
-        SUM_OVERFLOW.as_slice(),
-        SOURCES.as_slice(),
-        COUNTS.as_slice(),
-        ROUTES.as_slice(),
-        LISTS.as_slice(),
-    ] {
-        for (kind, start, lines) in table {
-            let (args, want) = start.split_once(" > ").ok_or("two parts")?;
-            let state = Token::List(kind.start(rt.alloc(), &list(rt.alloc(), args)?)?);
-            assert_eq!(rt; text(rt.alloc(), &state)?.as_str(), want, "{kind:?}");
+    for table in TABLES {
+        for (kind, _start, lines) in table {
             for line in lines.split('\n') {
                 let whole = expanded(rt.alloc(), line)?;
                 let (given, want) = whole.as_str().split_once(" > ").ok_or("two parts")?;

@@ -4,38 +4,51 @@ use super::lines::list;
 use cv_behave::Behave;
 use cv_flow::FlowKind;
 use cv_token::Items;
-use std::alloc::Global;
+use std::alloc::{AllocError, Global};
+use std::fmt::Write;
 use std::test::Fail;
 
-/// What the action needs of each inport, what it gives to each outport, and `*` where it is timed.
-fn action_shape<K: Behave>(alloc: Global, kind: &K, args: &Items, i: u8) -> Result<String, Fail> {
-    let mut told = String::new(alloc);
+/// Adds what the action needs of each inport, what it gives to each outport, and `*` where it is timed.
+fn add_action<K: Behave>(
+    told: &mut String,
+    kind: &K,
+    args: &Items,
+    i: u8,
+) -> Result<(), AllocError> {
     for port in 0..kind.inports() {
-        let needs = kind.needs(args, i, port);
-        told.push_str(format!(in alloc; " {needs}")?.as_str())?;
+        write!(told, " {}", kind.needs(args, i, port))?;
     }
     told.push_str(" >")?;
     for port in 0..kind.outports() {
-        let gives = kind.gives(i, port);
-        told.push_str(format!(in alloc; " {gives}")?.as_str())?;
+        write!(told, " {}", kind.gives(i, port))?;
     }
-    if kind.timed(i) {
-        told.push_str(" *")?;
-    }
-    Ok(told)
+    told.push_str(if kind.timed(i) { " *" } else { "" })
 }
 
-/// The guard port, the pause, and the shape of each action.
-fn shape<K: Behave>(alloc: Global, kind: &K, args: &Items) -> Result<String, Fail> {
-    let pause = kind.pause(args);
-    let mut told = match kind.guard_port() {
-        Some(port) => format!(in alloc; "{port} {pause}")?,
-        None => format!(in alloc; "- {pause}")?,
-    };
+/// Adds the guard port, `-` for none, and the pause.
+fn add_waits<K: Behave>(told: &mut String, kind: &K, args: &Items) -> Result<(), AllocError> {
+    match kind.guard_port() {
+        Some(port) => write!(told, "{port}")?,
+        None => told.push_str("-")?,
+    }
+    write!(told, " {}", kind.pause(args))
+}
+
+/// Adds the guard port, the pause, and the shape of each action.
+fn add_shape<K: Behave>(told: &mut String, kind: &K, args: &Items) -> Result<(), AllocError> {
+    add_waits(told, kind, args)?;
     for i in 0..kind.actions() {
         told.push_str(",")?;
-        told.push_str(action_shape(alloc, kind, args, i)?.as_str())?;
+        add_action(told, kind, args, i)?;
     }
+    Ok(())
+}
+
+/// The shape of a kind with the arguments that are written in JSON.
+fn shape<K: Behave>(alloc: Global, kind: &K, written: &str) -> Result<String, Fail> {
+    let args = list(alloc, written)?;
+    let mut told = String::new(alloc);
+    add_shape(&mut told, kind, &args)?;
     Ok(told)
 }
 
@@ -84,7 +97,7 @@ const SHAPES: [(FlowKind, &str); 31] = [
 fn has_the_shape_of_its_row(rt: HostRuntime) -> Result<(), Fail> {
     for (kind, line) in SHAPES {
         let (args, want) = line.split_once(" = ").ok_or("two parts")?;
-        let told = shape(rt.alloc(), &kind, &list(rt.alloc(), args)?)?;
+        let told = shape(rt.alloc(), &kind, args)?;
         assert_eq!(rt; told.as_str(), want, "{kind:?}");
         let is_alone = kind != FlowKind::Join && kind != FlowKind::Valve;
         assert_eq!(rt; kind.is_deterministic(), is_alone, "{kind:?}");
