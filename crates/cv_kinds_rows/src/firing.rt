@@ -23,12 +23,10 @@ const FIRINGS: [(u16, u8, Option<SoloFault>); 8] = [
 
 /// Each firing is allowed or refused as its row says.
 fn check_firings(rt: &impl Abort, alloc: Global, solo: &mut Solo) {
-    for (actor, action, refused) in &FIRINGS {
-        assert_eq!(rt;
-            solo.fire(alloc, *actor, *action).err(),
-            *refused,
-            "action {action} of actor {actor}"
-        );
+    for row in &FIRINGS {
+        let (actor, action, _) = *row;
+        let refused = solo.fire(alloc, actor, action).err();
+        assert_eq!(rt; (actor, action, refused), *row);
     }
 }
 
