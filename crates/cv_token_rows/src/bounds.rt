@@ -48,11 +48,14 @@ fn is_as_large_as_allowed(rt: HostRuntime) -> Result<(), Fail> {
         ("{\"\":0", ",\"k\":{}", 1, "}", true),
     ] {
         let written = repeated(rt.alloc(), front, part, count, back)?;
-        let (bytes, written) = (written.as_bytes(), written.as_str());
-        let shown = if fitting { written } else { "TooLarge" };
-        assert_eq!(rt; outcome(rt.alloc(), bytes)?.as_str(), shown);
-        tree_reads_as(&rt, rt.alloc(), bytes, written)?;
-        assert_eq!(rt; tree_fits(rt.alloc(), bytes)?, fitting);
+        let want = if fitting {
+            written.as_str()
+        } else {
+            "TooLarge"
+        };
+        assert_eq!(rt; outcome(rt.alloc(), written.as_bytes())?.as_str(), want);
+        tree_reads_as(&rt, rt.alloc(), written.as_bytes(), written.as_str())?;
+        assert_eq!(rt; tree_fits(rt.alloc(), written.as_bytes())?, fitting);
     }
     Ok(())
 }
