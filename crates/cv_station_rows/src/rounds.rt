@@ -2,10 +2,10 @@
 
 use cv_fixtures::{constant_to_print, node_spec, text};
 use cv_io::OpenGate;
-use cv_link::{Item, LinkItems, Pair, Rx, Tx};
+use cv_link::{Item, LinkItems, Pair};
 use cv_node::Node;
 use cv_node_fixtures::letters;
-use cv_protocol::{Event, Frame, Sent};
+use cv_protocol::{Event, Sent};
 use cv_rules::Attrs;
 use cv_station::{Peer, Station};
 use cv_token::{ActorId, AppId, OutOfMemory};
@@ -22,120 +22,69 @@ fn node(alloc: Global, no: u16) -> Result<Node, OutOfMemory> {
     Node::new(alloc, node_spec(alloc, no.clamp(1, 2), 1024))
 }
 
-/// The ring from a node to another, without an item.
-fn plain_ring(alloc: Global, from: u16, to: u16) -> Result<Pair, OutOfMemory> {
-    Pair::new(alloc, LinkItems::new(alloc, from, to))
-}
-
-/// The ring from node 1 to node 2, with that item.
-fn ring_with(alloc: Global, item: Item) -> Result<Pair, OutOfMemory> {
-    let mut items = LinkItems::new(alloc, 1, 2);
-    items.add(item)?;
-    Pair::new(alloc, items)
-}
-
-/// What a node has of itself.
-fn own_peer(alloc: Global, no: u16) -> Result<Peer, OutOfMemory> {
-    let ring = plain_ring(alloc, no, no)?;
-    Ok(Peer {
-        no,
-        tx: ring.tx,
-        rx: ring.rx,
-    })
-}
-
-/// Two peers in this order.
-fn both(alloc: Global, one: Peer, two: Peer) -> Result<Vec<Peer>, OutOfMemory> {
-    let mut peers = Vec::new(alloc);
-    peers.push(one)?;
-    peers.push(two)?;
-    Ok(peers)
-}
-
-fn station(alloc: Global, no: u16, peers: Vec<Peer>, quota: u32) -> Result<Station, OutOfMemory> {
-    let node = node(alloc, no)?;
-    Ok(Station {
+fn station(node: Node, peers: Vec<Peer>, quota: u32) -> Station {
+    Station {
         node,
         peers,
         quota,
         fired: 0,
         failed: false,
-    })
-}
-
-/// The station of node 1, with its ends of the rings to and from node 2.
-fn first(alloc: Global, tx: Tx, rx: Rx, quota: u32) -> Result<Station, OutOfMemory> {
-    let own = own_peer(alloc, 1)?;
-    let peers = both(alloc, own, Peer { no: 2, tx, rx })?;
-    station(alloc, 1, peers, quota)
-}
-
-/// The station of node 2, with its ends of the rings to and from node 1.
-fn second(alloc: Global, tx: Tx, rx: Rx, quota: u32) -> Result<Station, OutOfMemory> {
-    let own = own_peer(alloc, 2)?;
-    let peers = both(alloc, Peer { no: 1, tx, rx }, own)?;
-    station(alloc, 2, peers, quota)
-}
-
-/// Two stations that these rings join.
-fn connect(
-    alloc: Global,
-    there: Pair,
-    back: Pair,
-    quota: u32,
-) -> Result<(Station, Station), OutOfMemory> {
-    let one = first(alloc, there.tx, back.rx, quota)?;
-    let two = second(alloc, back.tx, there.rx, quota)?;
-    Ok((one, two))
+    }
 }
 
 /// Two stations whose rings are joined; the ring to node 2 has that item.
 fn stations(alloc: Global, item: Item, quota: u32) -> Result<(Station, Station), OutOfMemory> {
-    let there = ring_with(alloc, item)?;
-    let back = plain_ring(alloc, 2, 1)?;
-    connect(alloc, there, back, quota)
-}
-
-/// Deploys the network, of a constant with so many tokens and the sink.
-fn deploy(alloc: Global, node: &mut Node, tokens: i64) -> Result<(), Fail> {
-    let name = text(alloc, "run")?;
-    let net = Boxed::new(alloc, constant_to_print(alloc, tokens)?)?;
-    node.step(alloc, Event::Deploy { name, net })?;
-    Ok(())
-}
-
-/// Makes node 2 known.
-fn meet(alloc: Global, node: &mut Node) -> Result<(), Fail> {
-    let attrs = Attrs::new(alloc);
-    node.step(alloc, Event::Meet { node: 2, attrs })?;
-    Ok(())
-}
-
-/// Freezes the sink, and tells the transfer to node 2.
-fn freeze(alloc: Global, node: &mut Node) -> Result<Frame, Fail> {
-    match node.step(alloc, Event::Freeze { actor: SINK, to: 2 })? {
-        Sent::One(frame) => Ok(frame),
-        _ => Err(Fail::new("no transfer")),
-    }
-}
-
-/// Pushes the frame for node 2.
-fn push(station: &mut Station, frame: Frame) -> Result<(), Fail> {
-    let Some(peer) = station.peers.get_mut(1) else {
-        return Err(Fail::new("no second peer"));
-    };
-    match peer.tx.push(frame) {
-        Ok(()) => Ok(()),
-        Err(_frame) => Err(Fail::new("no room in the ring")),
-    }
+    let mut items = LinkItems::new(alloc, 1, 2);
+    items.add(item)?;
+    let there = Pair::new(alloc, items)?;
+    let back = Pair::new(alloc, LinkItems::new(alloc, 2, 1))?;
+    let own = Pair::new(alloc, LinkItems::new(alloc, 1, 1))?;
+    let other = Pair::new(alloc, LinkItems::new(alloc, 2, 2))?;
+    let mut first = Vec::new(alloc);
+    first.push(Peer {
+        no: 1,
+        tx: own.tx,
+        rx: own.rx,
+    })?;
+    first.push(Peer {
+        no: 2,
+        tx: there.tx,
+        rx: back.rx,
+    })?;
+    let mut second = Vec::new(alloc);
+    second.push(Peer {
+        no: 1,
+        tx: back.tx,
+        rx: there.rx,
+    })?;
+    second.push(Peer {
+        no: 2,
+        tx: other.tx,
+        rx: other.rx,
+    })?;
+    Ok((
+        station(node(alloc, 1)?, first, quota),
+        station(node(alloc, 2)?, second, quota),
+    ))
 }
 
 /// Deploys the network on node 1, and sends the sink on its way to node 2.
-fn start(alloc: Global, one: &mut Station, tokens: i64) -> Result<(), Fail> {
-    deploy(alloc, &mut one.node, tokens)?;
-    meet(alloc, &mut one.node)?;
-    let frame = freeze(alloc, &mut one.node)?;
-    push(one, frame)
+fn start(rt: &impl Abort, alloc: Global, one: &mut Station, tokens: i64) -> Result<(), Fail> {
+    let name = text(alloc, "run")?;
+    let net = Boxed::new(alloc, constant_to_print(alloc, tokens)?)?;
+    one.node.step(alloc, Event::Deploy { name, net })?;
+    let attrs = Attrs::new(alloc);
+    one.node.step(alloc, Event::Meet { node: 2, attrs })?;
+    let sent = one.node.step(alloc, Event::Freeze { actor: SINK, to: 2 })?;
+    assert!(rt; one.peers.len() == 2);
+    match sent {
+        Sent::One(frame) => {
+            let pushed = one.peers[1].tx.push(frame);
+            assert!(rt; pushed.is_ok());
+        }
+        _ => assert!(rt; false),
+    }
+    Ok(())
 }
 
 /// So many rounds of both stations, one after the other; how many firings each made.
@@ -152,43 +101,21 @@ fn rounds(alloc: Global, one: &mut Station, two: &mut Station, rounds: u32) -> (
 }
 
 /// What both journals say after so many rounds, and how many firings each node made.
-fn play(
+fn played(
+    rt: &impl Abort,
     alloc: Global,
     item: Item,
     quota: u32,
     times: u32,
 ) -> Result<(String, String, (u32, u32)), Fail> {
     let (mut one, mut two) = stations(alloc, item, quota)?;
-    start(alloc, &mut one, 3)?;
+    start(rt, alloc, &mut one, 3)?;
     let fired = rounds(alloc, &mut one, &mut two, times);
-    let says = letters(alloc, &one.node)?;
-    Ok((says, letters(alloc, &two.node)?, fired))
-}
-
-/// Holds what both journals say, and how many firings each node made, against what is wanted, with a quota that no round reaches.
-fn tells(
-    rt: &impl Abort,
-    alloc: Global,
-    item: Item,
-    wanted: (&str, &str),
-    firings: (u32, u32),
-) -> Result<(), Fail> {
-    let (one, two, fired) = play(alloc, item, 100, 8)?;
-    assert_eq!(rt; one.as_str(), wanted.0);
-    assert_eq!(rt; two.as_str(), wanted.1);
-    assert_eq!(rt; fired, firings);
-    Ok(())
-}
-
-/// How many firings each node made in so many rounds with that quota, where nothing is lost on the way there.
-fn firings(alloc: Global, quota: u32, times: u32) -> Result<(u32, u32), Fail> {
-    let item = Item::Lose {
-        from: 2,
-        to: 1,
-        k: 1,
-    };
-    let (_one, _two, fired) = play(alloc, item, quota, times)?;
-    Ok(fired)
+    Ok((
+        letters(alloc, &one.node)?,
+        letters(alloc, &two.node)?,
+        fired,
+    ))
 }
 
 // The sink's state is the first frame of the link; then a token travels a round, as the window is one, and its
@@ -200,13 +127,11 @@ fn tokens_arrive_at_the_other_node(rt: HostRuntime) -> Result<(), Fail> {
         to: 1,
         k: 1,
     };
-    tells(
-        &rt,
-        rt.alloc(),
-        item,
-        ("dmfFFFDSDSDSD", "DDpFDpFDpF"),
-        (3, 3),
-    )
+    let (one, two, fired) = played(&rt, rt.alloc(), item, 100, 8)?;
+    assert_eq!(rt; one.as_str(), "dmfFFFDSDSDSD");
+    assert_eq!(rt; two.as_str(), "DDpFDpFDpF");
+    assert_eq!(rt; fired, (3, 3));
+    Ok(())
 }
 
 // The second frame is the first token: node 2 journals its loss, and nothing is sent again in a round.
@@ -217,7 +142,11 @@ fn a_lost_frame_is_journalled(rt: HostRuntime) -> Result<(), Fail> {
         to: 2,
         k: 2,
     };
-    tells(&rt, rt.alloc(), item, ("dmfFFFDS", "DL"), (3, 0))
+    let (one, two, fired) = played(&rt, rt.alloc(), item, 100, 8)?;
+    assert_eq!(rt; one.as_str(), "dmfFFFDS");
+    assert_eq!(rt; two.as_str(), "DL");
+    assert_eq!(rt; fired, (3, 0));
+    Ok(())
 }
 
 // The first token comes twice: it is delivered twice, and fires once; both are answered.
@@ -228,21 +157,27 @@ fn a_doubled_frame_is_delivered_twice(rt: HostRuntime) -> Result<(), Fail> {
         to: 2,
         k: 2,
     };
-    tells(
-        &rt,
-        rt.alloc(),
-        item,
-        ("dmfFFFDSDDSDSD", "DDDpFDpFDpF"),
-        (3, 3),
-    )
+    let (one, two, fired) = played(&rt, rt.alloc(), item, 100, 8)?;
+    assert_eq!(rt; one.as_str(), "dmfFFFDSDDSDSD");
+    assert_eq!(rt; two.as_str(), "DDDpFDpFDpF");
+    assert_eq!(rt; fired, (3, 3));
+    Ok(())
 }
 
 // With a quota of one firing a round: three rounds for three firings, and the sink fires in the rounds after.
 #[test]
 fn a_round_ends_at_its_quota(rt: HostRuntime) -> Result<(), Fail> {
     let alloc = rt.alloc();
-    assert_eq!(rt; firings(alloc, 1, 1)?, (1, 0));
-    assert_eq!(rt; firings(alloc, 1, 2)?, (2, 1));
-    assert_eq!(rt; firings(alloc, 0, 2)?, (0, 0));
+    let item = Item::Lose {
+        from: 2,
+        to: 1,
+        k: 1,
+    };
+    let (_one, _two, fired) = played(&rt, alloc, item, 1, 1)?;
+    assert_eq!(rt; fired, (1, 0));
+    let (_one, _two, fired) = played(&rt, alloc, item, 1, 2)?;
+    assert_eq!(rt; fired, (2, 1));
+    let (_one, _two, fired) = played(&rt, alloc, item, 0, 2)?;
+    assert_eq!(rt; fired, (0, 0));
     Ok(())
 }
