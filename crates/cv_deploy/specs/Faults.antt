@@ -13,6 +13,7 @@ use Rattle.cv_kinds.specs.Net.{Net}
 use Rattle.cv_lex.specs.declared.lexeme.Lexeme.{Lexeme}
 use Rattle.cv_lex.specs.declared.lexeme.LexFault.{LexFault}
 use Rattle.cv_lex.specs.declared.lexeme.LexFault.TheVariants as lexing
+use Rattle.cv_lex.specs.Characters.{line_feed}
 use Rattle.cv_lex.specs.Faults.{HasFault as HasLexFault}
 use Rattle.cv_lex.specs.Spelling.{SpellsLexemes}
 use Rattle.cv_syntax.specs.declared.fault.ParseFault.{ParseFault}
@@ -31,7 +32,7 @@ use Rattle.cv_deploy.specs.Meaning.{first_word, IsWhole, StandsFor}
 -- ---- places
 
 abbrev pub is_feed : ℕ → Bool
-is_feed b = b == 10
+is_feed b = b == line_feed
 
 -- lines count from 1: one more than the line feeds before the place
 abbrev pub line_at : List ℕ → ℕ → ℕ

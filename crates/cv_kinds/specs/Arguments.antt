@@ -20,13 +20,26 @@ use Rattle.cv_kinds.specs.Table.{Parameter}
 
 -- ---- durations
 
+-- the characters of a fraction
+abbrev pub digit_0 : ℕ
+digit_0 = 48
+
+abbrev pub digit_9 : ℕ
+digit_9 = 57
+
+abbrev pub minus : ℕ
+minus = 45
+
+abbrev pub point : ℕ
+point = 46
+
 abbrev pub is_digit : ℕ → Bool
-is_digit b = nat_le 48 b && nat_le b 57
+is_digit b = nat_le digit_0 b && nat_le b digit_9
 
 -- the number that digits write behind a number; None where one is no digit
 abbrev pub read_digits : ℕ → List ℕ → Option ℕ
 read_digits n [] = Some n
-read_digits n (d ∷ ds) = if is_digit d then read_digits (n * 10 + (d - 48)) ds else None
+read_digits n (d ∷ ds) = if is_digit d then read_digits (n * 10 + (d - digit_0)) ds else None
 
 -- the number that at least one digit writes
 abbrev pub number_of : List ℕ → Option ℕ
@@ -49,11 +62,11 @@ abbrev pub of_parts : List ℕ → List ℕ → Option ℕ
 of_parts before behind = option_and_then (λ whole. option_and_then (time_of whole (length behind)) (number_of behind)) (number_of before)
 
 abbrev pub is_point : ℕ → Bool
-is_point b = b == 46
+is_point b = b == point
 
 -- the milliseconds of a text `DIGITS.DIGITS`
 abbrev pub fraction : List ℕ → Option ℕ
-fraction text = option_and_then (λ point. of_parts (take point text) (drop (point + 1) text)) (position is_point text)
+fraction text = option_and_then (λ place. of_parts (take place text) (drop (place + 1) text)) (position is_point text)
 
 abbrev pub nothing_but : ℕ → Option ℕ
 nothing_but n = if n == 0 then Some 0 else None
@@ -61,7 +74,7 @@ nothing_but n = if n == 0 then Some 0 else None
 -- the same with a sign before it, behind which only 0 is a duration
 abbrev pub signed_fraction : List ℕ → Option ℕ
 signed_fraction [] = None
-signed_fraction (b ∷ bs) = if b == 45 then option_and_then nothing_but (fraction bs) else fraction (b ∷ bs)
+signed_fraction (b ∷ bs) = if b == minus then option_and_then nothing_but (fraction bs) else fraction (b ∷ bs)
 
 -- the milliseconds of that many seconds
 abbrev pub seconds : Token → Option ℕ

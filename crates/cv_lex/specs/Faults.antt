@@ -1,5 +1,6 @@
 -- The cause of each fault of a text, and its place.
 use Rattle.std.specs.Prelude.{◌≡◌, ℕ, ◌+◌, ◌-◌, ◌<◌, ◌⊎◌, Option, Some, None, List, ◌∷◌, ◌++◌, length, take, drop}
+use Rattle.cv_lex.specs.Characters.{quote, slash, star}
 use Rattle.cv_lex.specs.declared.lexeme.Sort.{Sort}
 use Rattle.cv_lex.specs.declared.lexeme.Sort.TheVariants as sorts
 use Rattle.cv_lex.specs.declared.lexeme.LexFault.{LexFault}
@@ -19,11 +20,11 @@ NothingStands left = (thing : Option Sort) (front tail : List ℕ) → left ≡ 
 
 -- `/*` or `"""` stands at the front
 abbrev pub OpensComment : List ℕ → Type 0
-OpensComment left = (tail : List ℕ) × ((left ≡ 47 ∷ 42 ∷ tail) ⊎ (left ≡ 34 ∷ 34 ∷ 34 ∷ tail))
+OpensComment left = (tail : List ℕ) × ((left ≡ slash ∷ star ∷ tail) ⊎ (left ≡ quote ∷ quote ∷ quote ∷ tail))
 
 -- a quote stands at the front
 abbrev pub OpensText : List ℕ → Type 0
-OpensText left = (tail : List ℕ) × (left ≡ 34 ∷ tail)
+OpensText left = (tail : List ℕ) × (left ≡ quote ∷ tail)
 
 -- what stands at the front, the longest, with what follows it, is beyond a limit
 abbrev pub Exceeds : Sort → List ℕ → Type 0

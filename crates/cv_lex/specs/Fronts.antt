@@ -1,6 +1,7 @@
 -- What stands at the front of a text that begins at a place.
 use Rattle.std.specs.Prelude.{ℕ, ◌+◌, ◌==◌, nat_eq, nat_lt, is_some, false, if◌then◌else◌, Option, Some, None, List, [], ◌∷◌, take, drop, slice_index, ◌<◌}
 use Rattle.std.specs.List.{prefix_len, starts_with}
+use Rattle.cv_lex.specs.Characters.{dot, greater, minus, quote, slash, star}
 use Rattle.cv_lex.specs.declared.lexeme.Sort.TheVariants as sorts
 use Rattle.cv_lex.specs.declared.lexeme.LexFault.TheVariants as faults
 use Rattle.cv_lex.specs.declared.fronts.Front.{Front}
@@ -20,7 +21,7 @@ name_front at bytes =
 abbrev pub fraction_len : List ℕ → ℕ
 fraction_len bytes =
     let digits = prefix_len is_digit (drop 1 bytes) in
-    if slice_index bytes 0 == 46 then (if digits == 0 then 0 else digits + 1) else 0
+    if slice_index bytes 0 == dot then (if digits == 0 then 0 else digits + 1) else 0
 
 -- an integer with `more` bytes behind its first has 64 signed bits
 abbrev pub int_front : ℕ → List ℕ → ℕ → Front
@@ -38,7 +39,7 @@ number_front at bytes =
 abbrev pub minus_front : ℕ → List ℕ → Front
 minus_front at bytes =
     if is_digit (slice_index bytes 1) then number_front at bytes
-    else (if slice_index bytes 1 == 62 then fronts.Lexeme sorts.Mark 1
+    else (if slice_index bytes 1 == greater then fronts.Lexeme sorts.Mark 1
     else fronts.Flaw (faults.BadChar at))
 
 -- a comment that ends at a place, which `more` bytes separate from its last byte
@@ -49,8 +50,8 @@ comment_front at more (Some place) = fronts.Blank (place + more)
 -- `//` goes to the end of the line, `/*` to the first `*/`
 abbrev pub slash_front : ℕ → List ℕ → Front
 slash_front at bytes =
-    if slice_index bytes 1 == 47 then fronts.Blank (prefix_len is_in_line (drop 2 bytes) + 1)
-    else (if slice_index bytes 1 == 42 then comment_front at 3 (place_of 0 (42 ∷ 47 ∷ []) (drop 2 bytes))
+    if slice_index bytes 1 == slash then fronts.Blank (prefix_len is_in_line (drop 2 bytes) + 1)
+    else (if slice_index bytes 1 == star then comment_front at 3 (place_of 0 (star ∷ slash ∷ []) (drop 2 bytes))
     else fronts.Flaw (faults.BadChar at))
 
 -- a text whose last quote is at a place, by its first bad escape
@@ -66,7 +67,7 @@ text_front at inside (Some place) = inside_front at place (bad_of (said_from 0 0
 -- `"""` goes to the next `"""`, and any other quote begins a text
 abbrev pub quote_front : ℕ → List ℕ → Front
 quote_front at bytes =
-    if starts_with nat_eq bytes (34 ∷ 34 ∷ 34 ∷ []) then comment_front at 5 (place_of 0 (34 ∷ 34 ∷ 34 ∷ []) (drop 3 bytes))
+    if starts_with nat_eq bytes (quote ∷ quote ∷ quote ∷ []) then comment_front at 5 (place_of 0 (quote ∷ quote ∷ quote ∷ []) (drop 3 bytes))
     else text_front at (drop 1 bytes) (closing 0 false (drop 1 bytes))
 
 -- what stands at the front, by its first byte
@@ -76,9 +77,9 @@ front_of at bytes =
     if is_blank_byte first then fronts.Blank 0
     else (if is_name_start first then name_front at bytes
     else (if is_digit first then number_front at bytes
-    else (if first == 45 then minus_front at bytes
-    else (if first == 34 then quote_front at bytes
-    else (if first == 47 then slash_front at bytes
+    else (if first == minus then minus_front at bytes
+    else (if first == quote then quote_front at bytes
+    else (if first == slash then slash_front at bytes
     else (if is_mark_byte first then fronts.Lexeme sorts.Mark 0
     else fronts.Flaw (faults.BadChar at)))))))
 

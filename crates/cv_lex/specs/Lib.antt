@@ -1,4 +1,5 @@
 pub mod Bytes
+pub mod Characters
 pub mod Cuts
 pub mod Faults
 pub mod Fronts

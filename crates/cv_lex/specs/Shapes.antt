@@ -1,6 +1,7 @@
 -- The shapes of what stands in a text, by the rules of the grammar.
 use Rattle.std.specs.Prelude.{◌≡◌, ◌≢◌, ℕ, ◌-◌, ◌≤◌, Bool, true, ◌⊎◌, Option, Some, None, is_some, List, [], ◌∷◌, ◌++◌, length, take, drop}
 use Rattle.std.specs.List.{AllByRecursion}
+use Rattle.cv_lex.specs.Characters.{backslash, dot, greater, minus, quote, slash, star}
 use Rattle.cv_lex.specs.declared.lexeme.Sort.{Sort}
 use Rattle.cv_lex.specs.declared.lexeme.Sort.TheVariants as sorts
 use Rattle.cv_lex.specs.Bytes.{is_blank_byte, is_name_start, is_name_byte, is_digit, is_mark_byte, is_in_line}
@@ -24,27 +25,27 @@ AreDigits (b ∷ bytes) = (is_digit b ≡ true) × Each is_digit bytes
 -- digits, or `-` and digits
 abbrev pub IsInt : List ℕ → Type 0
 IsInt [] = ⊥
-IsInt (b ∷ bytes) = AreDigits (b ∷ bytes) ⊎ ((b ≡ 45) × AreDigits bytes)
+IsInt (b ∷ bytes) = AreDigits (b ∷ bytes) ⊎ ((b ≡ minus) × AreDigits bytes)
 
 -- an integer, a dot and digits
 abbrev pub IsFraction : List ℕ → Type 0
-IsFraction bytes = (whole : List ℕ) × (part : List ℕ) × IsInt whole × AreDigits part × (bytes ≡ whole ++ 46 ∷ part)
+IsFraction bytes = (whole : List ℕ) × (part : List ℕ) × IsInt whole × AreDigits part × (bytes ≡ whole ++ dot ∷ part)
 
 -- bytes that are neither a quote nor a `\`, and pairs of a `\` and any byte
 pub data IsInside : List ℕ → Type 0 where
   nothing : IsInside []
-  plain : {bytes : List ℕ} (b : ℕ) → b ≢ 34 → b ≢ 92 → IsInside bytes → IsInside (b ∷ bytes)
-  hidden : {bytes : List ℕ} (b : ℕ) → IsInside bytes → IsInside (92 ∷ b ∷ bytes)
+  plain : {bytes : List ℕ} (b : ℕ) → b ≢ quote → b ≢ backslash → IsInside bytes → IsInside (b ∷ bytes)
+  hidden : {bytes : List ℕ} (b : ℕ) → IsInside bytes → IsInside (backslash ∷ b ∷ bytes)
 
 -- a quote, an inside and a quote
 abbrev pub IsText : List ℕ → Type 0
-IsText bytes = (inside : List ℕ) × IsInside inside × (bytes ≡ 34 ∷ (inside ++ 34 ∷ []))
+IsText bytes = (inside : List ℕ) × IsInside inside × (bytes ≡ quote ∷ (inside ++ quote ∷ []))
 
 -- one of ( ) { } [ ] , : . = > & | ~ or `->`
 abbrev pub IsMark : List ℕ → Type 0
 IsMark [] = ⊥
 IsMark (b ∷ []) = is_mark_byte b ≡ true
-IsMark (b ∷ c ∷ []) = (b ≡ 45) × (c ≡ 62)
+IsMark (b ∷ c ∷ []) = (b ≡ minus) × (c ≡ greater)
 IsMark (b ∷ c ∷ d ∷ bytes) = ⊥
 
 -- the part stands nowhere in the body and itself but at the end
@@ -58,9 +59,9 @@ IsClosed opening close bytes = (body : List ℕ) × FirstIs close body × (bytes
 -- a white byte, `//` in its line, `/*` to the first `*/`, or `"""` to the next `"""`
 pub data IsBlank (bytes : List ℕ) : Type 0 where
   space : (b : ℕ) → is_blank_byte b ≡ true → bytes ≡ b ∷ [] → IsBlank bytes
-  line : (rest : List ℕ) → Each is_in_line rest → bytes ≡ 47 ∷ 47 ∷ rest → IsBlank bytes
-  block : IsClosed (47 ∷ 42 ∷ []) (42 ∷ 47 ∷ []) bytes → IsBlank bytes
-  quotes : IsClosed (34 ∷ 34 ∷ 34 ∷ []) (34 ∷ 34 ∷ 34 ∷ []) bytes → IsBlank bytes
+  line : (rest : List ℕ) → Each is_in_line rest → bytes ≡ slash ∷ slash ∷ rest → IsBlank bytes
+  block : IsClosed (slash ∷ star ∷ []) (star ∷ slash ∷ []) bytes → IsBlank bytes
+  quotes : IsClosed (quote ∷ quote ∷ quote ∷ []) (quote ∷ quote ∷ quote ∷ []) bytes → IsBlank bytes
 
 -- white space or a comment (None), or a lexeme of a sort, with what follows it; `"""` always begins a comment, so no text begins so
 abbrev pub IsAt : Option Sort → List ℕ → List ℕ → Type 0
@@ -68,7 +69,7 @@ IsAt None front rest = IsBlank front
 IsAt (Some sorts.Name) front rest = IsName front
 IsAt (Some sorts.Int) front rest = IsInt front
 IsAt (Some sorts.Fraction) front rest = IsFraction front
-IsAt (Some sorts.Text) front rest = IsText front × ((tail : List ℕ) → front ++ rest ≢ 34 ∷ 34 ∷ 34 ∷ tail)
+IsAt (Some sorts.Text) front rest = IsText front × ((tail : List ℕ) → front ++ rest ≢ quote ∷ quote ∷ quote ∷ tail)
 IsAt (Some sorts.Mark) front rest = IsMark front
 
 -- the longest that stands there

@@ -1,14 +1,15 @@
 -- How far texts and comments go.
 use Rattle.std.specs.Prelude.{ℕ, ◌+◌, ◌==◌, ◌&&◌, nat_eq, Bool, not, if◌then◌else◌, Option, Some, None, List, [], ◌∷◌}
 use Rattle.std.specs.List.{starts_with}
+use Rattle.cv_lex.specs.Characters.{backslash, quote}
 
 -- a quote that no `\` hides
 abbrev pub ends_text : Bool → ℕ → Bool
-ends_text hidden b = not hidden && (b == 34)
+ends_text hidden b = not hidden && (b == quote)
 
 -- a `\` that no `\` hides hides the byte behind it
 abbrev pub hides_next : Bool → ℕ → Bool
-hides_next hidden b = not hidden && (b == 92)
+hides_next hidden b = not hidden && (b == backslash)
 
 -- the place of the quote that ends a text, from place i on
 abbrev pub closing : ℕ → Bool → List ℕ → Option ℕ

@@ -2,6 +2,7 @@
 use Rattle.std.specs.Prelude.{ℕ, zero, suc, ◌+◌, ◌-◌, ◌*◌, ◌==◌, ◌&&◌, ◌||◌, nat_eq, nat_lt, nat_le, Bool, if◌then◌else◌, Option, Some, None, option_map, option_and_then, Result, Ok, Err, List, [], ◌∷◌, ◌++◌, length, drop, slice_index, encode_utf8}
 use Rattle.std.specs.Int.{is_in_range}
 use Rattle.std.specs.List.{starts_with}
+use Rattle.cv_lex.specs.Characters.{backslash, backspace, capital_a, capital_f, carriage_return, digit_0, digit_9, form_feed, letter_a, letter_b, letter_f, letter_n, letter_r, letter_t, letter_u, line_feed, quote, slash, tab}
 use Rattle.cv_lex.specs.declared.escapes.Escape.{Escape}
 
 infixl 10 ◌>>=◌
@@ -12,9 +13,9 @@ read >>= next = option_and_then next read
 -- the value of a hexadecimal digit
 abbrev pub hex_digit : ℕ → Option ℕ
 hex_digit b =
-    if is_in_range 48 57 b then Some (b - 48)
-    else (if is_in_range 65 70 b then Some (b - 55)
-    else (if is_in_range 97 102 b then Some (b - 87)
+    if is_in_range digit_0 digit_9 b then Some (b - digit_0)
+    else (if is_in_range capital_a capital_f b then Some (b - (capital_a - 10))
+    else (if is_in_range letter_a letter_f b then Some (b - (letter_a - 10))
     else None))
 
 -- the number of four hexadecimal digits
@@ -43,7 +44,7 @@ pair_with high (Some low) =
 -- a first half, and the bytes behind it
 abbrev pub pair_of : ℕ → List ℕ → Option Escape
 pair_of high behind =
-    if starts_with nat_eq behind (92 ∷ 117 ∷ []) then pair_with high (hex4 (drop 2 behind)) else None
+    if starts_with nat_eq behind (backslash ∷ letter_u ∷ []) then pair_with high (hex4 (drop 2 behind)) else None
 
 -- a unit of sixteen bits, and the bytes behind it; a half alone says no character
 abbrev pub unit_escape : ℕ → List ℕ → Option Escape
@@ -54,19 +55,19 @@ unit_escape unit behind =
 -- the character that a letter behind `\` says
 abbrev pub short_escape : ℕ → Option ℕ
 short_escape b =
-    if (b == 34) || (b == 92) || (b == 47) then Some b
-    else (if b == 98 then Some 8
-    else (if b == 102 then Some 12
-    else (if b == 110 then Some 10
-    else (if b == 114 then Some 13
-    else (if b == 116 then Some 9
+    if (b == quote) || (b == backslash) || (b == slash) then Some b
+    else (if b == letter_b then Some backspace
+    else (if b == letter_f then Some form_feed
+    else (if b == letter_n then Some line_feed
+    else (if b == letter_r then Some carriage_return
+    else (if b == letter_t then Some tab
     else None)))))
 
 -- the escape that begins behind a `\`: its character, and how many bytes it takes there
 abbrev pub escape_of : List ℕ → Option Escape
 escape_of bytes =
     if length bytes == 0 then None
-    else (if slice_index bytes 0 == 117 then option_and_then (λ unit. unit_escape unit (drop 4 (drop 1 bytes))) (hex4 (drop 1 bytes))
+    else (if slice_index bytes 0 == letter_u then option_and_then (λ unit. unit_escape unit (drop 4 (drop 1 bytes))) (hex4 (drop 1 bytes))
     else option_map (λ c. record { code = c; len = 1 }) (short_escape (slice_index bytes 0)))
 
 -- bytes, and what follows them
@@ -84,7 +85,7 @@ abbrev pub said_from : ℕ → ℕ → List ℕ → Result (List ℕ) ℕ
 said_from at k [] = Ok []
 said_from at (suc k) (b ∷ bytes) = said_from (at + 1) k bytes
 said_from at zero (b ∷ bytes) =
-    if b == 92 then by_escape at (escape_of bytes) (λ k. said_from (at + 1) k bytes)
+    if b == backslash then by_escape at (escape_of bytes) (λ k. said_from (at + 1) k bytes)
     else with_bytes (b ∷ []) (said_from (at + 1) zero bytes)
 
 -- the place of the first bad escape

@@ -1,6 +1,7 @@
 -- The words that lexemes are.
 use Rattle.std.specs.Prelude.{ℕ, ◌+◌, ◌-◌, ◌==◌, pos, if◌then◌else◌, Option, Some, None, unwrap_or, List, codes, slice_index, slice_range}
 use Rattle.std.specs.Str.{bytes_eq}
+use Rattle.cv_lex.specs.Characters.{ampersand, bar, close_brace, close_bracket, close_paren, colon, comma, dot, equals, greater, open_brace, open_bracket, open_paren, tilde}
 use Rattle.cv_lex.specs.declared.lexeme.Sort.{Sort}
 use Rattle.cv_lex.specs.declared.lexeme.Sort.TheVariants as sorts
 use Rattle.cv_lex.specs.declared.lexeme.Lexeme.{Lexeme}
@@ -22,20 +23,20 @@ bytes_of source lexeme = slice_range source lexeme.at (lexeme.at + lexeme.len)
 abbrev pub mark_of : List ℕ → Mark
 mark_of bytes =
     let first = slice_index bytes 0 in
-    if first == 40 then marks.OpenParen
-    else (if first == 41 then marks.CloseParen
-    else (if first == 123 then marks.OpenBrace
-    else (if first == 125 then marks.CloseBrace
-    else (if first == 91 then marks.OpenBracket
-    else (if first == 93 then marks.CloseBracket
-    else (if first == 44 then marks.Comma
-    else (if first == 58 then marks.Colon
-    else (if first == 46 then marks.Dot
-    else (if first == 61 then marks.Equals
-    else (if first == 62 then marks.Greater
-    else (if first == 38 then marks.Ampersand
-    else (if first == 124 then marks.Bar
-    else (if first == 126 then marks.Tilde
+    if first == open_paren then marks.OpenParen
+    else (if first == close_paren then marks.CloseParen
+    else (if first == open_brace then marks.OpenBrace
+    else (if first == close_brace then marks.CloseBrace
+    else (if first == open_bracket then marks.OpenBracket
+    else (if first == close_bracket then marks.CloseBracket
+    else (if first == comma then marks.Comma
+    else (if first == colon then marks.Colon
+    else (if first == dot then marks.Dot
+    else (if first == equals then marks.Equals
+    else (if first == greater then marks.Greater
+    else (if first == ampersand then marks.Ampersand
+    else (if first == bar then marks.Bar
+    else (if first == tilde then marks.Tilde
     else marks.Arrow)))))))))))))
 
 -- the reserved name that a name is
