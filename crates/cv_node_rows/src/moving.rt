@@ -59,126 +59,123 @@ fn first(rt: &impl Abort, alloc: Global) -> Result<Node, Fail> {
     Ok(node)
 }
 
-/// Nodes 1 to 3; the actor was deployed at node 1.
-fn nodes(rt: &impl Abort, alloc: Global) -> Result<Vec<Node>, Fail> {
-    let mut nodes = Vec::new(alloc);
-    nodes.push(first(rt, alloc)?)?;
-    nodes.push(node(rt, alloc, 2)?)?;
-    nodes.push(node(rt, alloc, 3)?)?;
-    Ok(nodes)
+/// What is done in a row.
+#[derive(Clone, Copy)]
+enum Act {
+    /// The actor leaves the first node for the second one.
+    Freeze(u16, u16),
+    /// The actor fires at the node.
+    Fire(u16),
+    /// A copy of the frame of that number, counted from 0 as they are sent, comes to where it is addressed.
+    Deliver(usize),
+    /// It is asked where the node sees the actor.
+    Look(u16),
 }
 
-/// Does an event of a node, and tells the frame that it sends.
-fn done(
-    rt: &impl Abort,
-    alloc: Global,
-    nodes: &mut Vec<Node>,
-    no: u16,
-    event: Event,
-) -> Result<Option<Frame>, Fail> {
-    let Some(node) = nodes.get_mut(usize::from(no.saturating_sub(1))) else {
-        return Ok(None);
-    };
-    let told = node.step(alloc, event);
-    assert!(rt; told.is_ok());
-    Ok(frame_of(told))
+/// What is told of it.
+#[derive(Clone, Copy, PartialEq, Eq)]
+enum Told {
+    /// The event was done, and sent nothing.
+    Done,
+    Refused(StepRefusal),
+    /// The frame that the event sent: a transfer by that attempt.
+    Transfer(u64),
+    /// The verdict on that attempt.
+    Verdict(u64, Verdict),
+    /// The place where the actor was made live by that attempt.
+    Located(u64, u16),
+    /// Another frame.
+    Other,
+    Sees(Option<Seen>),
 }
 
-/// The one frame that an event sent.
-fn frame_of(told: Result<Sent, StepRefusal>) -> Option<Frame> {
-    match told {
-        Ok(Sent::One(frame)) => Some(frame),
-        _ => None,
+/// Nodes 1 to 3, and all frames that they sent; the actor was deployed at node 1.
+#[derive(Drop)]
+struct World {
+    nodes: Vec<Node>,
+    sent: Vec<Frame>,
+}
+
+impl World {
+    fn new(rt: &impl Abort, alloc: Global) -> Result<World, Fail> {
+        let mut nodes = Vec::new(alloc);
+        nodes.push(first(rt, alloc)?)?;
+        nodes.push(node(rt, alloc, 2)?)?;
+        nodes.push(node(rt, alloc, 3)?)?;
+        let sent = Vec::new(alloc);
+        Ok(World { nodes, sent })
+    }
+
+    fn act(&mut self, alloc: Global, act: Act) -> Result<Told, OutOfMemory> {
+        match act {
+            Act::Freeze(at, to) => self.step(alloc, at, freeze(to)),
+            Act::Fire(at) => self.step(alloc, at, fire()),
+            Act::Deliver(place) => self.deliver(alloc, place),
+            Act::Look(at) => Ok(Told::Sees(self.sees(at))),
+        }
+    }
+
+    /// Where the node sees the actor.
+    fn sees(&self, at: u16) -> Option<Seen> {
+        self.nodes.get(place_of(at))?.known_actor(ACTOR)
+    }
+
+    fn deliver(&mut self, alloc: Global, place: usize) -> Result<Told, OutOfMemory> {
+        match self.sent.get(place) {
+            Some(frame) => {
+                let to = frame.to;
+                let frame = copy_frame(alloc, frame)?;
+                self.step(alloc, to, Event::Deliver { frame })
+            }
+            None => Ok(Told::Other),
+        }
+    }
+
+    /// Does an event at the node; a frame that it sends is kept.
+    fn step(&mut self, alloc: Global, at: u16, event: Event) -> Result<Told, OutOfMemory> {
+        match self.nodes.get_mut(place_of(at)) {
+            Some(node) => {
+                let sent = node.step(alloc, event);
+                self.keep(sent)
+            }
+            None => Ok(Told::Other),
+        }
+    }
+
+    fn keep(&mut self, sent: Result<Sent, StepRefusal>) -> Result<Told, OutOfMemory> {
+        match sent {
+            Ok(Sent::One(frame)) => {
+                let told = told_of(&frame.body);
+                self.sent.push(frame)?;
+                Ok(told)
+            }
+            Ok(_) => Ok(Told::Done),
+            Err(cause) => Ok(Told::Refused(cause)),
+        }
     }
 }
 
-/// The refusal of an event of a node.
-fn refusal(alloc: Global, nodes: &mut Vec<Node>, no: u16, event: Event) -> Option<StepRefusal> {
-    let node = nodes.get_mut(usize::from(no.saturating_sub(1)))?;
-    node.step(alloc, event).err()
+/// The place of the node of that number.
+fn place_of(no: u16) -> usize {
+    usize::from(no.saturating_sub(1))
 }
 
-/// Delivers a copy of the frame to the node that it is addressed to.
-fn deliver(
-    rt: &impl Abort,
-    alloc: Global,
-    nodes: &mut Vec<Node>,
-    frame: &Option<Frame>,
-) -> Result<Option<Frame>, Fail> {
-    assert!(rt; frame.is_some());
-    let Some(frame) = frame else {
-        return Ok(None);
-    };
-    let copy = copy_frame(alloc, frame)?;
-    done(rt, alloc, nodes, frame.to, Event::Deliver { frame: copy })
-}
-
-/// The actor is made live where the transfer goes, and is let go where it left.
-fn land(
-    rt: &impl Abort,
-    alloc: Global,
-    nodes: &mut Vec<Node>,
-    transfer: &Option<Frame>,
-) -> Result<(), Fail> {
-    let verdict = deliver(rt, alloc, nodes, transfer)?;
-    let told = deliver(rt, alloc, nodes, &verdict)?;
-    assert!(rt; told.is_none());
-    Ok(())
-}
-
-/// Moves the actor from a node to another one. Tells the transfer.
-fn travel(
-    rt: &impl Abort,
-    alloc: Global,
-    nodes: &mut Vec<Node>,
-    from: u16,
-    to: u16,
-) -> Result<Option<Frame>, Fail> {
-    let transfer = done(rt, alloc, nodes, from, freeze(to))?;
-    land(rt, alloc, nodes, &transfer)?;
-    Ok(transfer)
-}
-
-/// Moves the actor from node 1 to 2, back, and to 2 again. Tells the third transfer.
-fn travel_thrice(
-    rt: &impl Abort,
-    alloc: Global,
-    nodes: &mut Vec<Node>,
-) -> Result<Option<Frame>, Fail> {
-    let _first = travel(rt, alloc, nodes, 1, 2)?;
-    let _second = travel(rt, alloc, nodes, 2, 1)?;
-    travel(rt, alloc, nodes, 1, 2)
-}
-
-/// The actor, the attempt and the verdict that the frame tells, where it tells a verdict.
-fn verdict_of(frame: &Option<Frame>) -> Option<(ActorId, u64, Verdict)> {
-    match &frame.as_ref()?.body {
+/// What a frame tells of the actor.
+fn told_of(body: &Body) -> Told {
+    match body {
+        Body::Transfer { actor, attempt, .. } if *actor == ACTOR => Told::Transfer(*attempt),
         Body::Verdict {
             actor,
             attempt,
             verdict,
-        } => Some((*actor, *attempt, *verdict)),
-        _ => None,
-    }
-}
-
-/// The actor, the attempt and the node that the frame tells, where it tells a place.
-fn place_of(frame: &Option<Frame>) -> Option<(ActorId, u64, u16)> {
-    match &frame.as_ref()?.body {
+        } if *actor == ACTOR => Told::Verdict(*attempt, *verdict),
         Body::Located {
             actor,
             attempt,
             node,
-        } => Some((*actor, *attempt, *node)),
-        _ => None,
+        } if *actor == ACTOR => Told::Located(*attempt, *node),
+        _ => Told::Other,
     }
-}
-
-/// Where the node of that number sees the actor.
-fn seen(nodes: &Vec<Node>, no: u16) -> Option<Seen> {
-    nodes
-        .get(usize::from(no.saturating_sub(1)))?
-        .known_actor(ACTOR)
 }
 
 /// A freeze of the actor towards a node.
@@ -186,32 +183,81 @@ fn freeze(to: u16) -> Event {
     Event::Freeze { actor: ACTOR, to }
 }
 
+/// A firing of the actor.
+fn fire() -> Event {
+    Event::Fire {
+        actor: ACTOR,
+        action: 0,
+    }
+}
+
+/// Each act is told so, one after the other.
+fn follow(rt: &impl Abort, alloc: Global, rows: &[(Act, Told)]) -> Result<(), Fail> {
+    let mut world = World::new(rt, alloc)?;
+    for (act, told) in rows {
+        assert!(rt; world.act(alloc, *act)? == *told);
+    }
+    Ok(())
+}
+
+/// What a node's calls tell.
+#[derive(Clone, Copy, PartialEq, Eq)]
+struct NodeView {
+    live: Option<ActorId>,
+    next_live: Option<ActorId>,
+    frozen: Option<(ActorId, u64, u16)>,
+    next_frozen: Option<(ActorId, u64, u16)>,
+    seen: Option<Seen>,
+    hint: Option<Location>,
+    due: Option<u64>,
+    fires: bool,
+}
+
+fn view(node: &Node) -> NodeView {
+    NodeView {
+        live: node.live_at(0),
+        next_live: node.live_at(1),
+        frozen: node.frozen_at(0),
+        next_frozen: node.frozen_at(1),
+        seen: node.known_actor(ACTOR),
+        hint: node.hint(ACTOR),
+        due: node.next_due(),
+        fires: node.enabled(&fire()),
+    }
+}
+
 // The timer waits, fires at its moment, and waits again.
 #[test]
 fn calls_tell_of_a_live_actor(rt: HostRuntime) -> Result<(), Fail> {
     let alloc = rt.alloc();
     let mut node = first(&rt, alloc)?;
-    let fire = Event::Fire {
-        actor: ACTOR,
-        action: 0,
+    let waits = NodeView {
+        live: Some(ACTOR),
+        next_live: None,
+        frozen: None,
+        next_frozen: None,
+        seen: Some(Seen::Live),
+        hint: Some(Location {
+            attempt: 0,
+            node: 1,
+        }),
+        due: Some(100),
+        fires: false,
     };
-    assert_eq!(rt; node.live_at(0), Some(ACTOR));
-    assert_eq!(rt; node.live_at(1), None);
-    assert_eq!(rt; node.known_actor(ACTOR), Some(Seen::Live));
-    assert!(rt;
-        node.hint(ACTOR)
-            == Some(Location {
-                attempt: 0,
-                node: 1
-            })
-    );
-    assert_eq!(rt; node.next_due(), Some(100));
-    assert!(rt; !node.enabled(&fire));
+    assert!(rt; view(&node) == waits);
     assert!(rt; node.step(alloc, Event::Tick { now: 100 }).is_ok());
-    assert_eq!(rt; node.next_due(), None);
-    assert!(rt; node.enabled(&fire));
-    assert!(rt; node.step(alloc, fire).is_ok());
-    assert_eq!(rt; node.next_due(), Some(200));
+    let ready = NodeView {
+        due: None,
+        fires: true,
+        ..waits
+    };
+    assert!(rt; view(&node) == ready);
+    assert!(rt; node.step(alloc, fire()).is_ok());
+    let again = NodeView {
+        due: Some(200),
+        ..waits
+    };
+    assert!(rt; view(&node) == again);
     Ok(())
 }
 
@@ -220,27 +266,23 @@ fn calls_tell_of_a_live_actor(rt: HostRuntime) -> Result<(), Fail> {
 fn calls_tell_of_an_actor_that_left(rt: HostRuntime) -> Result<(), Fail> {
     let alloc = rt.alloc();
     let mut node = first(&rt, alloc)?;
-    assert_eq!(rt; node.frozen_at(0), None);
     assert!(rt; node.step(alloc, freeze(2)).is_ok());
-    assert_eq!(rt; node.frozen_at(0), Some((ACTOR, 1, 2)));
-    assert_eq!(rt; node.frozen_at(1), None);
-    assert_eq!(rt; node.live_at(0), None);
-    assert_eq!(rt; node.known_actor(ACTOR), Some(Seen::Moving));
+    let moving = view(&node);
+    assert!(rt; moving.live == None && moving.seen == Some(Seen::Moving));
+    assert!(rt; moving.frozen == Some((ACTOR, 1, 2)) && moving.next_frozen == None);
     let arrived = Event::Hint {
         actor: ACTOR,
         attempt: 1,
         node: 2,
     };
     assert!(rt; node.step(alloc, arrived).is_ok());
-    assert_eq!(rt; node.frozen_at(0), None);
-    assert_eq!(rt; node.known_actor(ACTOR), Some(Seen::Away(2)));
-    assert!(rt;
-        node.hint(ACTOR)
-            == Some(Location {
-                attempt: 1,
-                node: 2
-            })
-    );
+    let left = view(&node);
+    assert!(rt; left.frozen == None && left.seen == Some(Seen::Away(2)));
+    let there = Location {
+        attempt: 1,
+        node: 2,
+    };
+    assert!(rt; left.hint == Some(there));
     Ok(())
 }
 
@@ -277,61 +319,53 @@ fn room_made_ahead_is_used_up(rt: HostRuntime) -> Result<(), Fail> {
 
 #[test]
 fn steps_that_lack_something_are_refused(rt: HostRuntime) -> Result<(), Fail> {
-    let alloc = rt.alloc();
-    let mut nodes = nodes(&rt, alloc)?;
-    let fire = Event::Fire {
-        actor: ACTOR,
-        action: 0,
-    };
-    assert_eq!(rt;
-        refusal(alloc, &mut nodes, 1, fire),
-        Some(StepRefusal::NotEnabled)
-    );
-    assert_eq!(rt;
-        refusal(alloc, &mut nodes, 1, freeze(9)),
-        Some(StepRefusal::NoNode)
-    );
-    assert_eq!(rt;
-        refusal(alloc, &mut nodes, 2, freeze(1)),
-        Some(StepRefusal::NotHere)
-    );
-    Ok(())
+    let rows = [
+        (Act::Fire(1), Told::Refused(StepRefusal::NotEnabled)),
+        (Act::Freeze(1, 9), Told::Refused(StepRefusal::NoNode)),
+        (Act::Freeze(2, 1), Told::Refused(StepRefusal::NotHere)),
+    ];
+    follow(&rt, rt.alloc(), &rows)
 }
 
 #[test]
 fn steps_of_moved_actors_are_refused(rt: HostRuntime) -> Result<(), Fail> {
-    let alloc = rt.alloc();
-    let mut nodes = nodes(&rt, alloc)?;
-    let transfer = done(&rt, alloc, &mut nodes, 1, freeze(2))?;
-    assert_eq!(rt; seen(&nodes, 1), Some(Seen::Moving));
-    assert_eq!(rt;
-        refusal(alloc, &mut nodes, 1, freeze(2)),
-        Some(StepRefusal::Moving)
-    );
-    land(&rt, alloc, &mut nodes, &transfer)?;
-    assert_eq!(rt; seen(&nodes, 1), Some(Seen::Away(2)));
-    assert_eq!(rt; seen(&nodes, 2), Some(Seen::Live));
-    assert_eq!(rt;
-        refusal(alloc, &mut nodes, 1, freeze(2)),
-        Some(StepRefusal::NotHere)
-    );
-    Ok(())
+    let rows = [
+        (Act::Freeze(1, 2), Told::Transfer(1)),
+        (Act::Look(1), Told::Sees(Some(Seen::Moving))),
+        (Act::Freeze(1, 2), Told::Refused(StepRefusal::Moving)),
+        (Act::Deliver(0), Told::Verdict(1, Verdict::Accepted)),
+        (Act::Deliver(1), Told::Done),
+        (Act::Look(1), Told::Sees(Some(Seen::Away(2)))),
+        (Act::Look(2), Told::Sees(Some(Seen::Live))),
+        (Act::Freeze(1, 2), Told::Refused(StepRefusal::NotHere)),
+    ];
+    follow(&rt, rt.alloc(), &rows)
 }
 
 // Attempt 3 comes to node 2 three times: first, again at once, and after the actor went on to node 3 and to node 1.
 #[test]
 fn late_transfers_are_answered(rt: HostRuntime) -> Result<(), Fail> {
-    let alloc = rt.alloc();
-    let mut nodes = nodes(&rt, alloc)?;
-    let third = travel_thrice(&rt, alloc, &mut nodes)?;
-    let at_once = deliver(&rt, alloc, &mut nodes, &third)?;
-    assert!(rt; verdict_of(&at_once) == Some((ACTOR, 3, Verdict::Accepted)));
-    assert_eq!(rt; seen(&nodes, 2), Some(Seen::Live));
-    let _fourth = travel(&rt, alloc, &mut nodes, 2, 3)?;
-    let _fifth = travel(&rt, alloc, &mut nodes, 3, 1)?;
-    let late = deliver(&rt, alloc, &mut nodes, &third)?;
-    assert!(rt; place_of(&late) == Some((ACTOR, 4, 3)));
-    assert_eq!(rt; seen(&nodes, 2), Some(Seen::Away(3)));
-    assert_eq!(rt; seen(&nodes, 1), Some(Seen::Live));
-    Ok(())
+    let rows = [
+        (Act::Freeze(1, 2), Told::Transfer(1)),
+        (Act::Deliver(0), Told::Verdict(1, Verdict::Accepted)),
+        (Act::Deliver(1), Told::Done),
+        (Act::Freeze(2, 1), Told::Transfer(2)),
+        (Act::Deliver(2), Told::Verdict(2, Verdict::Accepted)),
+        (Act::Deliver(3), Told::Done),
+        (Act::Freeze(1, 2), Told::Transfer(3)),
+        (Act::Deliver(4), Told::Verdict(3, Verdict::Accepted)),
+        (Act::Deliver(5), Told::Done),
+        (Act::Deliver(4), Told::Verdict(3, Verdict::Accepted)),
+        (Act::Look(2), Told::Sees(Some(Seen::Live))),
+        (Act::Freeze(2, 3), Told::Transfer(4)),
+        (Act::Deliver(7), Told::Verdict(4, Verdict::Accepted)),
+        (Act::Deliver(8), Told::Done),
+        (Act::Freeze(3, 1), Told::Transfer(5)),
+        (Act::Deliver(9), Told::Verdict(5, Verdict::Accepted)),
+        (Act::Deliver(10), Told::Done),
+        (Act::Deliver(4), Told::Located(4, 3)),
+        (Act::Look(2), Told::Sees(Some(Seen::Away(3)))),
+        (Act::Look(1), Told::Sees(Some(Seen::Live))),
+    ];
+    follow(&rt, rt.alloc(), &rows)
 }
